@@ -1,0 +1,9 @@
+pub mod Tests
+pub mod Masks
+pub mod Folds
+pub mod Rounds
+pub mod Smallest
+pub mod Core
+pub mod Rows
+pub mod Earliest
+pub mod Refusals

@@ -1,0 +1,6 @@
+pub mod Table
+pub mod Streams
+pub mod Sets
+pub mod Masks
+pub mod Rows
+pub mod Refusals
