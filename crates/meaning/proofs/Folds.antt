@@ -3,12 +3,13 @@ use mathlib.Core.Path.{_≡_, refl, ap, subst, sym, _∙_}
 use mathlib.Core.Bool.{Bool, true, false, cond}
 use mathlib.Core.List.{List, [], _∷_, _++_, append-assoc}
 use mathlib.Core.Logic.{_↔_, _⊎_, inl, inr}
-use Prim.Native.Nat.{ℕ, zero, suc, _+_, _<_, _≤_}
+use Prim.Native.Nat.{ℕ, zero, suc, _+_, _-_, _<_, _≤_}
 use native.Mathlib.Decide.{decLe}
+use native.Mathlib.Numerals.{add-one}
 use native.Mathlib.Omega.{arith}
 use lib.Dec.{T}
-use lib.ListN.{getD, length, length-append}
-use lib.Seq.{getD-append-seam}
+use lib.ListN.{getD, set, replicate, length, length-append}
+use lib.Seq.{append-snoc, getD-append-seam, set-append-seam}
 use Rattle.meaning.specs.Masks.{has, added, upto, collect, tabulate}
 use Rattle.meaning.proofs.Masks.{Within, Lies, has-none, added-keeps, added-gains, added-cases}
 use Rattle.meaning.proofs.Tests.{same-test}
@@ -92,3 +93,16 @@ tabulate-at (suc n) f rest i l =
     go (no m) ih =
         let e : n ≡ i = omega arith in
         subst (λ (j : ℕ). getD (tabulate n f ++ (f n ∷ rest)) j 0 ≡ f j) e seam
+
+-- One value more of a table whose other places are 0.
+pub tabulate-more :
+    (size n v : ℕ) (f : ℕ → ℕ) → n < size → v ≡ f n →
+    set (tabulate n f ++ replicate (size - n) 0) n v ≡ tabulate (n + 1) f ++ replicate (size - (n + 1)) 0
+tabulate-more size n v f l e =
+    let z : size - n ≡ suc (size - suc n) = omega arith in
+    rw (z, add-one n, e)
+    (subst (λ (i : ℕ). set (tabulate n f ++ (0 ∷ rest)) i (f n) ≡ tabulate n f ++ (f n ∷ rest)) (tabulate-length n f) (set-append-seam (tabulate n f) 0 rest (f n))
+    ∙ sym (append-snoc (tabulate n f) (f n) rest))
+  where
+    rest : List ℕ
+    rest = replicate (size - suc n) 0

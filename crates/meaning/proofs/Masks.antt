@@ -79,12 +79,15 @@ bit-or : (a b i : ℕ) → bit (bitOr a b) i ≡ max (bit a i) (bit b i)
 bit-or a b i = rw (or-shr a b i) (omega (arith, or-step (a / 2 ^ i) (b / 2 ^ i)))
 
 pub added-keeps : (m i : ℕ) → Within m (added m i)
+unfolding added
 added-keeps m i r h = one-bit (added m i) r (omega (arith, bit-or m (2 ^ i) r, bit-one m r h))
 
 pub added-gains : (m i : ℕ) → T (has (added m i) i)
+unfolding added
 added-gains m i = one-bit (added m i) i (omega (arith, bit-or m (2 ^ i) i, power-itself i))
 
 pub added-cases : (m i r : ℕ) → T (has (added m i) r) → T (has m r) ⊎ (i ≡ r)
+unfolding added
 added-cases m i r h = go (ℕ-discrete (bit m r) 1) (bit-or m (2 ^ i) r) (bit-one (added m i) r h)
   where
     go : Dec (bit m r ≡ 1) → bit (added m i) r ≡ max (bit m r) (bit (2 ^ i) r) → bit (added m i) r ≡ 1 → T (has m r) ⊎ (i ≡ r)
@@ -97,6 +100,7 @@ bit-and : (a b i : ℕ) → bit (bitAnd a b) i ≡ min (bit a i) (bit b i)
 bit-and a b i = rw (and-shr a b i) (omega (arith, and-step (a / 2 ^ i) (b / 2 ^ i)))
 
 pub within-take : (a x : ℕ) → T (within a x) → Within a x
+unfolding within
 within-take a x h i g =
     let e : bitAnd a x ≡ a = eqb→eq (bitAnd a x) a h in
     let f : bit a i ≡ min (bit a i) (bit x i) = subst (λ (y : ℕ). bit y i ≡ min (bit a i) (bit x i)) e (bit-and a x i) in
@@ -122,6 +126,7 @@ within-and = bin-ind (λ a. (x : ℕ) → Within a x → bitAnd a x ≡ a) (λ x
     half a ih x h = omega (arith, and-step a x, ih (x / 2) (within-half a x h), within-low a x h)
 
 pub within-give : (a x : ℕ) → Within a x → T (within a x)
+unfolding within
 within-give a x h = rw (within-and a x h) (eqb-refl a)
 
 pub within-le : (x y : ℕ) → Within x y → x ≤ y

@@ -2,9 +2,10 @@
 use mathlib.Core.Path.{_≡_, refl, sym, subst}
 use mathlib.Core.Bool.{Bool, true, false, not, cond, _&&_, _||_}
 use mathlib.Core.Logic.{_↔_, _⊎_, inl, inr}
-use Prim.Native.Nat.{ℕ, zero, suc, _<_, _≤_}
+use Prim.Native.Nat.{ℕ, zero, suc, _+_, _<_, _≤_}
 use native.Mathlib.Omega.{arith}
 use native.Mathlib.Decide.{decLe}
+use native.Mathlib.Numerals.{add-one}
 use lib.Dec.{T}
 use Rattle.meaning.specs.Masks.{all}
 
@@ -54,3 +55,21 @@ all-take (suc n) test h i l = go (decLe (suc i) n) (λ m. all-take n test (and-l
     go : Dec (i < n) → (i < n → T (test i)) → T (test i)
     go (yes m) ih = ih m
     go (no m) ih = subst (λ (j : ℕ). T (test j)) (omega arith) (and-right (all n test) (test n) h)
+
+-- A loop that tests every number below n carries `all i test ≡ true`, and leaves at the first that fails
+
+-- One test more has passed.
+pub all-more : (n : ℕ) (test : ℕ → Bool) → all n test ≡ true → test n ≡ true → all (n + 1) test ≡ true
+all-more n test e h = rw (add-one n, e, h)
+
+-- The loop has come to its end with every test passed.
+pub all-passed : (n i : ℕ) (test : ℕ → Bool) → i ≤ n → n ≤ i → all i test ≡ true → true ≡ all n test
+all-passed n i test l m e = let q : i ≡ n = omega arith in sym (rw q at e)
+
+-- One test that fails is enough.
+pub all-fails : (n : ℕ) (test : ℕ → Bool) (i : ℕ) → i < n → test i ≡ false → all n test ≡ false
+all-fails n test i l e = go (all n test) refl
+  where
+    go : (b : Bool) → all n test ≡ b → all n test ≡ false
+    go true h = absurd (rw e at (all-take n test (true-T h) i l))
+    go false h = h

@@ -13,11 +13,11 @@ abbrev pub has : ℕ → ℕ → Bool
 has m i = eqb (m / 2 ^ i % 2) 1
 
 -- The set m with state i.
-abbrev pub added : ℕ → ℕ → ℕ
+unfoldable pub added : ℕ → ℕ → ℕ
 added m i = bitOr m (2 ^ i)
 
 -- The set a lies in x.
-abbrev pub within : ℕ → ℕ → Bool
+unfoldable pub within : ℕ → ℕ → Bool
 within a x = eqb (bitAnd a x) a
 
 -- f at 0, then at 1, and so on below n.
@@ -95,8 +95,12 @@ downOf t accs q x = safeOf (t .states) accs (intoOf t q x)
 abbrev pub inDown : Table → ℕ → ℕ → ℕ → Bool
 inDown t acc q x = all 64 (λ p. not (has acc p) || (ltb p (t .states) && has x (t .apply q p)))
 
+-- The states that are final, or those that are not.
+abbrev pub endsOf : Table → Bool → ℕ
+endsOf t wanted = collect (t .states) (λ q. cond wanted (t .final q) (not (t .final q)))
+
 abbrev pub finalsOf : Table → ℕ
-finalsOf t = collect (t .states) (t .final)
+finalsOf t = endsOf t Bool.true
 
 abbrev pub othersOf : Table → ℕ
-othersOf t = collect (t .states) (λ q. not (t .final q))
+othersOf t = endsOf t Bool.false
