@@ -1,6 +1,6 @@
 -- The core theorem, for a stack of states: the newest state is in the newest set exactly when every completion from
 -- there ends in F. F is any set of end states, so one proof serves selecting and rejecting. Assumes nothing of the table.
-use mathlib.Core.Path.{_≡_, refl, ap, subst, sym, _∙_}
+use mathlib.Core.Path.{_≡_, refl, ap, subst, _∙_}
 use mathlib.Core.List.{List, [], _∷_}
 use mathlib.Core.Logic.{_↔_}
 use Prim.Native.Nat.{ℕ, zero, suc}
@@ -19,13 +19,13 @@ abbrev pub Closes : Table → ℕ → List Event → Type 0
 Closes t d w = Reads (t .labels) d w zero
 
 module _ (t : Table) where
-  acc-trans : {q r x : ℕ} → Acc t q r → Acc t r x → Acc t q x
+  pub acc-trans : {q r x : ℕ} → Acc t q r → Acc t r x → Acc t q x
   acc-trans a Acc.here = a
   acc-trans a (Acc.pointed b l) = Acc.pointed (acc-trans a b) l
   acc-trans a (Acc.applied b p) = Acc.applied (acc-trans a b) p
 
   -- What is accessible from a tree's state is a tree's state.
-  tree-acc : {q r : ℕ} → Tree t q → Acc t q r → Tree t r
+  pub tree-acc : {q r : ℕ} → Tree t q → Acc t q r → Tree t r
   tree-acc h Acc.here = h
   tree-acc h (Acc.pointed b l) = Tree.pointed (tree-acc h b) l
   tree-acc h (Acc.applied b p) = Tree.applied (tree-acc h b) p

@@ -1,6 +1,6 @@
 -- Earliest: at every prefix and for every position read, the row that 01's rules build decides by its newest level what
 -- all completions decide.
-use mathlib.Core.Path.{_≡_, refl, ap, subst, sym, _∙_}
+use mathlib.Core.Path.{_≡_, refl, ap, _∙_}
 use mathlib.Core.Bool.{Bool, true, false}
 use mathlib.Core.List.{List, [], _∷_, _++_}
 use mathlib.Core.Logic.{_↔_, _⊎_, inl, inr}
@@ -9,9 +9,9 @@ use native.Mathlib.Omega.{arith}
 use lib.Dec.{T}
 use lib.ListN.{length}
 use Rattle.meaning.specs.Masks.{finalsOf, othersOf}
-use Rattle.meaning.specs.Rows.{Row, isSelecting, isRejecting, rowAfter}
+use Rattle.meaning.specs.Rows.{isSelecting, isRejecting, rowAfter}
 use Rattle.meaning.specs.Sets.{LevelSet}
-use Rattle.meaning.specs.Streams.{Event, Open, Point, Close, Run, closing, step, run, marked, positions, Reads, Prefix, Whole, Completes, Certain, RuledOut, Alive}
+use Rattle.meaning.specs.Streams.{Event, Open, Point, Close, Run, closing, step, run, marked, positions, Reads, Prefix, Completes, Certain, RuledOut, Alive}
 use Rattle.meaning.specs.Table.{Table, WellFormed}
 use Rattle.meaning.proofs.Core.{core, ends}
 use Rattle.meaning.proofs.Rows.{close-ahead, row-is, level-is, marked-in}

@@ -6,4 +6,5 @@ pub mod Smallest
 pub mod Core
 pub mod Rows
 pub mod Earliest
+pub mod Hedges
 pub mod Refusals

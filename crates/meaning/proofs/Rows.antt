@@ -2,9 +2,8 @@
 use mathlib.Core.Path.{_≡_, refl, ap, sym, _∙_}
 use mathlib.Core.List.{List, [], _∷_}
 use Prim.Native.Nat.{ℕ, zero, suc, pred, _<_}
-use lib.Dec.{T}
 use Rattle.meaning.specs.Masks.{accsOf, safeOf, downOf, finalsOf, othersOf}
-use Rattle.meaning.specs.Rows.{Level, Row, closeLevels, closeRow, openRow, pointRow, markedRow, followRow, rowAfter}
+use Rattle.meaning.specs.Rows.{Level, Row, closeLevels, markedRow, followRow, rowAfter}
 use Rattle.meaning.specs.Sets.{LevelSet}
 use Rattle.meaning.specs.Streams.{Event, Open, Point, Close, Run, marking, closing, step, run, marked, Reads, Prefix}
 use Rattle.meaning.specs.Table.{Table, WellFormed}

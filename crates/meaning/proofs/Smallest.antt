@@ -1,19 +1,19 @@
 -- The masks are the smallest sets, for every well-formed table; closing them takes at most n rounds; mark steps never
 -- count, nested trees do.
-use mathlib.Core.Path.{_≡_, refl, ap, subst, subst⁻¹, sym, _∙_}
+use mathlib.Core.Path.{_≡_, refl, subst}
 use mathlib.Core.Bool.{Bool, not, cond, _&&_, _||_}
 use mathlib.Core.List.{List}
-use mathlib.Core.Logic.{_↔_, _⊎_, inl, inr}
-use Prim.Native.Nat.{ℕ, zero, suc, _^_, _+_, _<_, _≤_}
+use mathlib.Core.Logic.{_↔_}
+use Prim.Native.Nat.{ℕ, zero, suc, _^_, _<_, _≤_}
 use native.Mathlib.Omega.{arith}
 use lib.Dec.{T, ltb, ltb→lt, lt→ltb, T-not, not-T}
 use lib.ListN.{getD}
-use lib.Pow.{pow-pos, pow-lt}
-use Rattle.meaning.specs.Masks.{has, added, within, upto, rounds, all, pointsOf, appliesOf, followOf, roundOf, openingsOf, treesOf, accOf, accsOf, safeOf, intoOf, downOf, inDown, finalsOf, othersOf}
+use lib.Pow.{pow-lt}
+use Rattle.meaning.specs.Masks.{has, added, within, rounds, all, pointsOf, appliesOf, followOf, roundOf, openingsOf, treesOf, accOf, accsOf, safeOf, intoOf, downOf, inDown, finalsOf, othersOf}
 use Rattle.meaning.specs.Sets.{Tree, Acc, Safe, Down}
 use Rattle.meaning.specs.Table.{Table, WellFormed}
 use Rattle.meaning.proofs.Folds.{upto-keeps, upto-gains, upto-lies, cond-keeps, cond-gains, cond-lies, added-lies, collect-give, collect-take, tabulate-at}
-use Rattle.meaning.proofs.Masks.{Within, Lies, IsMask, card, card-some, has-none, has-lt, only-give, only-take, added-keeps, added-gains, within-give, within-take, small}
+use Rattle.meaning.proofs.Masks.{Within, Lies, IsMask, card-some, has-none, has-lt, only-give, only-take, added-keeps, added-gains, within-give, within-take, small}
 use Rattle.meaning.proofs.Rounds.{LastAfter, rounds-keep, closes, settled}
 use Rattle.meaning.proofs.Tests.{same-test, and-both, and-left, and-right, implies-give, implies-take, all-give, all-take}
 

@@ -1,5 +1,6 @@
 pub mod Table
 pub mod Streams
+pub mod Hedges
 pub mod Sets
 pub mod Masks
 pub mod Rows
