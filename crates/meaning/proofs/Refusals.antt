@@ -99,7 +99,7 @@ module _ {A : Type 0} (number : A → ℕ) (otherwise : A) where
       go false a g d ih zero = a
       go false a g d ih (suc i) = ih g i
 
-  none-taken : (ls : List (Line A)) → ((i : ℕ) → appliesAt ls i ≡ false) → firstOf ls otherwise ≡ otherwise
+  pub none-taken : (ls : List (Line A)) → ((i : ℕ) → appliesAt ls i ≡ false) → firstOf ls otherwise ≡ otherwise
   none-taken [] h = refl
   none-taken (l ∷ ls) h = rw (h zero) (none-taken ls (λ i. h (suc i)))
 

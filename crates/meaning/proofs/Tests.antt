@@ -35,6 +35,13 @@ pub and-right : (a b : Bool) → T (a && b) → T b
 and-right true b h = h
 and-right false b h = absurd h
 
+pub both-true : (a b : Bool) → a && b ≡ true → (a ≡ true) × (b ≡ true)
+both-true a b e = (T-true a (and-left a b (true-T e)), T-true b (and-right a b (true-T e)))
+
+-- Where the first two pass, the last decides.
+pub and-last : {a b c r : Bool} → a ≡ true → b ≡ true → r ≡ c → r ≡ a && (b && c)
+and-last e f h = rw (e, f) h
+
 -- "not a or b" is "a gives b".
 pub implies-give : (a b : Bool) → (T a → T b) → T (not a || b)
 implies-give true b h = h tt
@@ -73,3 +80,7 @@ all-fails n test i l e = go (all n test) refl
     go : (b : Bool) → all n test ≡ b → all n test ≡ false
     go true h = absurd (rw e at (all-take n test (true-T h) i l))
     go false h = h
+
+-- Where all pass, each does.
+pub all-holds : (n : ℕ) (test : ℕ → Bool) → all n test ≡ true → (i : ℕ) → i < n → test i ≡ true
+all-holds n test e i l = T-true (test i) (all-take n test (true-T e) i l)

@@ -1,0 +1,62 @@
+-- `trees` meets its contract: a loop of rounds that stops early ends in the set that n rounds reach.
+use borrow.Author.Needs.{needs}
+use Prim.Native.Nat.{_-_, _^_}
+use Rattle.meaning.specs.Masks.{roundOf, openingsOf}
+use Rattle.meaning.specs.Table.{tableOf}
+use Rattle.meaning.proofs.Smallest.{round-lt, round-keeps, openings-lt}
+use Rattle.closing.proofs.StopEarly.{OnTheWay, way-begins, way-goes-on, way-shortens, way-ends}
+use Rattle.closing.proofs.trees.Statement.{statement}
+use Rattle.closing.proofs.trees.Tie as tie
+
+abbrev Inv-loop : tie.InvT-loop
+Inv-loop table x₀ x = OnTheWay (tableOf table .states) (λ z. roundOf (tableOf table) z z) (openingsOf (tableOf table)) x
+
+abbrev μ-loop : tie.MeasureT-loop
+μ-loop table x₀ x = 2 ^ tableOf table .states - x
+
+openings-requires : tie.Need-openings-requires Inv-loop μ-loop
+openings-requires c κs = search needs
+
+loop-holds : tie.Need-loop-holds Inv-loop μ-loop
+loop-holds c =
+    let s = c .before .before in
+    let t = tableOf (s .args .table .now) in
+    rw (c .openings .ensures)
+    (way-begins (t .states) (λ z. roundOf t z z) (λ z. round-lt t (s .pre .formed) z z) (λ z. round-keeps t z z) (openingsOf t) (openings-lt t (s .pre .formed)))
+
+round-requires : tie.Need-round-requires Inv-loop μ-loop
+round-requires c κs = c .before .before .before .pre
+
+loop-less : tie.Need-loop-less Inv-loop μ-loop
+loop-less c =
+    let s = c .before .before .before .before .before in
+    let l = c .before .before .loop in
+    let t = tableOf (s .args .table .now) in
+    way-shortens (t .states) (λ z. roundOf t z z) (λ z. round-lt t (s .pre .formed) z z) (λ z. round-keeps t z z) (openingsOf t) (l .x) (c .before .round .result) (c .before .round .ensures) (l .inv) (c .if1 .left)
+
+loop-again : tie.Need-loop-again Inv-loop μ-loop
+loop-again c =
+    let s = c .before .before .before .before .before in
+    let l = c .before .before .loop in
+    let t = tableOf (s .args .table .now) in
+    way-goes-on (t .states) (λ z. roundOf t z z) (λ z. round-lt t (s .pre .formed) z z) (λ z. round-keeps t z z) (openingsOf t) (l .x) (c .before .round .result) (c .before .round .ensures) (l .inv)
+
+returns : tie.Need-returns Inv-loop μ-loop
+returns c =
+    let s = c .before .before .before .before .before in
+    let l = c .before .before .loop in
+    let t = tableOf (s .args .table .now) in
+    way-ends (t .states) (λ z. roundOf t z z) (λ z. round-lt t (s .pre .formed) z z) (λ z. round-keeps t z z) (openingsOf t) (l .x) (c .before .round .result) (c .before .round .ensures) (l .inv) (c .if1 .taken)
+
+pub trees-spec : {M : Type 1} → statement M
+trees-spec =
+    tie.close
+    (tie.spec
+    Inv-loop
+    μ-loop
+    openings-requires
+    loop-holds
+    round-requires
+    loop-less
+    loop-again
+    returns)
