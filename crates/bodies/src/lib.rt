@@ -4,10 +4,10 @@
 // which every file has that `table::read` takes) and for states and labels below its n and k; each answers what `tableOf`
 // the bytes says.
 ghost use mathlib.Core.Path.{_≡_};
-ghost use Prim.Native.Nat.{_+_, _<_, _≤_};
+ghost use Prim.Native.Nat.{_+_, _*_, _<_};
 ghost use lib.ListN.{length, getD};
-ghost use Rattle.meaning.specs.Table.{tableOf};
-ghost use Rattle.bodies.specs.Sound.{Sound};
+ghost use Rattle.meaning.specs.Table.{tableOf, inBody, bodyLength};
+ghost use Rattle.bodies.specs.Sound.{Sound, CellOf, statesIn, labelsIn};
 
 // The byte at a place, as a number.
 pub fn byte(table: &[u8], at: u64) -> u64
@@ -15,6 +15,26 @@ pub fn byte(table: &[u8], at: u64) -> u64
     ensures { λ r. ⌜ r ≡ getD (now (table .entry)) at 0 ⌝ }
 {
     table[at as usize] as u64
+}
+
+// Byte j of body i, both counted from 0.
+fn in_body(table: &[u8], i: u64, j: u64) -> u64
+    requires { ⌜ Sound (now table) ⌝ }
+    requires { ⌜ (i < 5) × (j < bodyLength (statesIn (now table)) (labelsIn (now table)) i) ⌝ }
+    ensures { λ r. ⌜ r ≡ inBody (now (table .entry)) i j ⌝ }
+{
+    let n = byte(table, 0);
+    let k = byte(table, 1);
+    byte(table, offsets::body_at(n, k, i) + j)
+}
+
+// The cell of row q and column a, of a body i whose rows, one a state, are w wide.
+fn cell(table: &[u8], i: u64, w: u64, q: u64, a: u64) -> u64
+    requires { ⌜ Sound (now table) ⌝ }
+    requires { ⌜ CellOf (now table) i w q a ⌝ }
+    ensures { λ r. ⌜ r ≡ inBody (now (table .entry)) i (q * w + a) ⌝ }
+{
+    in_body(table, i, q * w + a)
 }
 
 // n.
@@ -47,8 +67,7 @@ pub fn opening(table: &[u8], a: u64) -> u64
     requires { ⌜ a < tableOf (now table) .labels ⌝ }
     ensures { λ r. ⌜ r ≡ tableOf (now (table .entry)) .opening a ⌝ }
 {
-    let at = 29 + a;
-    byte(table, at)
+    in_body(table, 0, a)
 }
 
 // P(q,a): the state that a point of label a takes q to.
@@ -57,9 +76,7 @@ pub fn point(table: &[u8], q: u64, a: u64) -> u64
     requires { ⌜ (q < tableOf (now table) .states) × (a < tableOf (now table) .labels) ⌝ }
     ensures { λ r. ⌜ r ≡ tableOf (now (table .entry)) .point q a ⌝ }
 {
-    let k = labels(table);
-    let at = offsets::point_at(k) + q * k + a;
-    byte(table, at)
+    cell(table, 1, labels(table), q, a)
 }
 
 // M(q): the state that the mark takes q to.
@@ -68,10 +85,7 @@ pub fn mark(table: &[u8], q: u64) -> u64
     requires { ⌜ q < tableOf (now table) .states ⌝ }
     ensures { λ r. ⌜ r ≡ tableOf (now (table .entry)) .mark q ⌝ }
 {
-    let n = states(table);
-    let k = labels(table);
-    let at = offsets::mark_at(n, k) + q;
-    byte(table, at)
+    in_body(table, 2, q)
 }
 
 // A(q,p): the state in which q, which waited outside, goes on after a tree that ended in p.
@@ -80,10 +94,7 @@ pub fn apply(table: &[u8], q: u64, p: u64) -> u64
     requires { ⌜ (q < tableOf (now table) .states) × (p < tableOf (now table) .states) ⌝ }
     ensures { λ r. ⌜ r ≡ tableOf (now (table .entry)) .apply q p ⌝ }
 {
-    let n = states(table);
-    let k = labels(table);
-    let at = offsets::apply_at(n, k) + q * n + p;
-    byte(table, at)
+    cell(table, 3, states(table), q, p)
 }
 
 // Is q final?
@@ -92,8 +103,5 @@ pub fn is_final(table: &[u8], q: u64) -> bool
     requires { ⌜ q < tableOf (now table) .states ⌝ }
     ensures { λ r. ⌜ r ≡ tableOf (now (table .entry)) .final q ⌝ }
 {
-    let n = states(table);
-    let k = labels(table);
-    let at = offsets::final_at(n, k) + q;
-    byte(table, at) == 1
+    in_body(table, 4, q) == 1
 }

@@ -39,7 +39,11 @@ abbrev pub bodyAt : ℕ → ℕ → ℕ → ℕ
 bodyAt n k zero = 29
 bodyAt n k (suc i) = bodyAt n k i + bodyLength n k i
 
--- The table that a file's bytes are.
+-- Byte j of body i of a file, both counted from 0.
+abbrev pub inBody : List ℕ → ℕ → ℕ → ℕ
+inBody f i j = getD f (bodyAt (getD f 0 0) (getD f 1 0) i + j) 0
+
+-- The table that a file's bytes are. P is laid out with all labels of state 0 first, A with all p of q = 0 first.
 abbrev pub tableOf : List ℕ → Table
 tableOf f =
     let n = getD f 0 0 in
@@ -48,9 +52,9 @@ tableOf f =
       states = n;
       labels = k;
       start = getD f 2 0;
-      opening = λ a. getD f (bodyAt n k 0 + a) 0;
-      point = λ q a. getD f (bodyAt n k 1 + q * k + a) 0;
-      mark = λ q. getD f (bodyAt n k 2 + q) 0;
-      apply = λ q p. getD f (bodyAt n k 3 + q * n + p) 0;
-      final = λ q. eqb (getD f (bodyAt n k 4 + q) 0) 1;
+      opening = λ a. inBody f 0 a;
+      point = λ q a. inBody f 1 (q * k + a);
+      mark = λ q. inBody f 2 q;
+      apply = λ q p. inBody f 3 (q * n + p);
+      final = λ q. eqb (inBody f 4 q) 1;
     }

@@ -6,7 +6,7 @@ ghost use Prim.Native.Nat.{_<_, _≤_};
 ghost use Rattle.meaning.specs.Table.{bodyAt, bodyLength};
 
 // Where the point body begins; the opening body begins at 29.
-pub fn point_at(k: u64) -> u64
+fn point_at(k: u64) -> u64
     requires { ⌜ k ≤ 32 ⌝ }
     ensures { λ r. ⌜ r ≡ bodyAt 0 k 1 ⌝ }
 {
@@ -14,7 +14,7 @@ pub fn point_at(k: u64) -> u64
 }
 
 // Where the mark body begins.
-pub fn mark_at(n: u64, k: u64) -> u64
+fn mark_at(n: u64, k: u64) -> u64
     requires { ⌜ (n ≤ 64) × (k ≤ 32) ⌝ }
     ensures { λ r. ⌜ r ≡ bodyAt n k 2 ⌝ }
 {
@@ -22,7 +22,7 @@ pub fn mark_at(n: u64, k: u64) -> u64
 }
 
 // Where the apply body begins.
-pub fn apply_at(n: u64, k: u64) -> u64
+fn apply_at(n: u64, k: u64) -> u64
     requires { ⌜ (n ≤ 64) × (k ≤ 32) ⌝ }
     ensures { λ r. ⌜ r ≡ bodyAt n k 3 ⌝ }
 {
@@ -30,7 +30,7 @@ pub fn apply_at(n: u64, k: u64) -> u64
 }
 
 // Where the final body begins.
-pub fn final_at(n: u64, k: u64) -> u64
+fn final_at(n: u64, k: u64) -> u64
     requires { ⌜ (n ≤ 64) × (k ≤ 32) ⌝ }
     ensures { λ r. ⌜ r ≡ bodyAt n k 4 ⌝ }
 {

@@ -3,17 +3,16 @@
 use mathlib.Core.Bool.{true, false}
 use mathlib.Core.List.{List}
 use mathlib.Core.Logic.{_↔_}
-use mathlib.Core.Path.{_≡_, refl, sym, ap, _∙_, subst}
+use mathlib.Core.Path.{_≡_, refl, sym, ap, _∙_}
 use Prim.Native.Nat.{ℕ, _+_, _*_, _<_}
 use native.Mathlib.Omega.{arith}
 use borrow.Author.Tests.{eqb-true, ltb-true, not-false}
 use lib.Arith.{digits-lt}
 use lib.Dec.{ltb}
-use lib.ListN.{getD}
 use Rattle.meaning.specs.Refusals.{FirstAt, appliesAt, givesAt}
 use Rattle.meaning.proofs.Refusals
 use Rattle.meaning.proofs.Refusals.{given-exactly, first-gives, none-taken}
-use Rattle.meaning.specs.Table.{bodyAt, bodyLength, tableOf}
+use Rattle.meaning.specs.Table.{bodyLength, inBody, tableOf}
 use Rattle.bodies.specs.Sound.{Sound, statesIn, labelsIn}
 use Rattle.table.specs.File.{headerRight, lengthRight, bodyLimit, bodyRight, bodiesRight, lines, readingOf, refusalNumber, numberOf}
 use Rattle.table.specs.declared.Reading.{Reading}
@@ -25,23 +24,11 @@ use Rattle.table.proofs.Header.{in-range}
 
 module _ (f : List ℕ) (bodies : bodiesRight f ≡ true) where
   -- Byte j of body i is below the body's limit.
-  byte-below : (i : ℕ) → i < 5 → (j : ℕ) → j < bodyLength (statesIn f) (labelsIn f) i
-      → getD f (bodyAt (statesIn f) (labelsIn f) i + j) 0 < bodyLimit (statesIn f) i
+  byte-below : (i : ℕ) → i < 5 → (j : ℕ) → j < bodyLength (statesIn f) (labelsIn f) i → inBody f i j < bodyLimit (statesIn f) i
   byte-below i kind j l =
       ltb-true _ _
-      (all-holds (bodyLength (statesIn f) (labelsIn f) i)
-      (λ j. ltb (getD f (bodyAt (statesIn f) (labelsIn f) i + j) 0) (bodyLimit (statesIn f) i))
-      (all-holds 5 (bodyRight f) bodies i kind)
-      j
-      l)
-
-  -- Cell (q,a) of a body of rows, that wide, is below the body's limit.
-  cell-below : (i : ℕ) → i < 5 → (rows w q a : ℕ) → rows * w ≡ bodyLength (statesIn f) (labelsIn f) i → q < rows → a < w
-      → getD f (bodyAt (statesIn f) (labelsIn f) i + q * w + a) 0 < bodyLimit (statesIn f) i
-  cell-below i kind rows w q a s lq la =
-      let e : bodyAt (statesIn f) (labelsIn f) i + (q * w + a) ≡ bodyAt (statesIn f) (labelsIn f) i + q * w + a = omega arith in
-      subst (λ (x : ℕ). getD f x 0 < bodyLimit (statesIn f) i) e
-      (byte-below i kind (q * w + a) (rw s at (digits-lt {q = q} {m = rows} {r = a} {c = w} lq la)))
+      (all-holds (bodyLength (statesIn f) (labelsIn f) i) (λ j. ltb (inBody f i j) (bodyLimit (statesIn f) i))
+      (all-holds 5 (bodyRight f) bodies i kind) j l)
 
 -- Lines 2, 4 and 5 are what a sound file needs.
 sound : (f : List ℕ) → headerRight f ≡ true → lengthRight f ≡ true → bodiesRight f ≡ true → Sound f
@@ -56,9 +43,9 @@ sound f header size bodies =
         few-labels = r .few-labels;
         start-in = r .start-in;
         opening-in = byte-below f bodies 0 (omega arith);
-        point-in = λ q a. cell-below f bodies 1 (omega arith) (statesIn f) (labelsIn f) q a refl;
+        point-in = λ q a lq la. byte-below f bodies 1 (omega arith) (q * labelsIn f + a) (digits-lt lq la);
         mark-in = byte-below f bodies 2 (omega arith);
-        apply-in = λ q p. cell-below f bodies 3 (omega arith) (statesIn f) (statesIn f) q p refl;
+        apply-in = λ q p lq lp. byte-below f bodies 3 (omega arith) (q * statesIn f + p) (digits-lt lq lp);
       };
     }
 

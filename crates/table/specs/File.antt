@@ -8,7 +8,7 @@ use lib.Dec.{eqb, leb, ltb}
 use lib.ListN.{getD, length}
 use Rattle.meaning.specs.Masks.{all}
 use Rattle.meaning.specs.Refusals.{Line, firstOf}
-use Rattle.meaning.specs.Table.{bodyAt, bodyLength}
+use Rattle.meaning.specs.Table.{bodyAt, bodyLength, inBody}
 use Rattle.bodies.specs.Sound.{statesIn, labelsIn, startIn}
 use Rattle.table.specs.declared.Reading.{Reading}
 use Rattle.table.specs.declared.Reading.the-variants.{Taken, Refused}
@@ -57,13 +57,9 @@ lengthRight f = eqb (length f) (bodyAt (statesIn f) (labelsIn f) 5)
 abbrev pub bodyLimit : ℕ → ℕ → ℕ
 bodyLimit n i = getD (n ∷ n ∷ n ∷ n ∷ 2 ∷ []) i 0
 
--- The bytes from a place on, that many, are below a limit.
-abbrev pub bytesBelow : List ℕ → ℕ → ℕ → ℕ → Bool
-bytesBelow f from count limit = all count (λ j. ltb (getD f (from + j) 0) limit)
-
+-- Every byte of body i is below its limit.
 abbrev pub bodyRight : List ℕ → ℕ → Bool
-bodyRight f i =
-    bytesBelow f (bodyAt (statesIn f) (labelsIn f) i) (bodyLength (statesIn f) (labelsIn f) i) (bodyLimit (statesIn f) i)
+bodyRight f i = all (bodyLength (statesIn f) (labelsIn f) i) (λ j. ltb (inBody f i j) (bodyLimit (statesIn f) i))
 
 -- 5, put the other way: no body of kind 1 to 4 names a state ≥ n, and kind 5 holds no byte above 1.
 abbrev pub bodiesRight : List ℕ → Bool
@@ -95,3 +91,7 @@ refusalNumber Body = 5
 abbrev pub numberOf : Reading → ℕ
 numberOf (Taken n k) = 0
 numberOf (Refused why) = refusalNumber why
+
+-- The bytes from a place on, that many, are below a limit.
+abbrev pub bytesBelow : List ℕ → ℕ → ℕ → ℕ → Bool
+bytesBelow f from count limit = all count (λ j. ltb (getD f (from + j) 0) limit)
