@@ -3,8 +3,11 @@ pub mod Masks
 pub mod Folds
 pub mod Rounds
 pub mod Smallest
+pub mod InDown
+pub mod Marks
 pub mod Core
 pub mod Rows
 pub mod Earliest
 pub mod Hedges
 pub mod Refusals
+pub mod Contracts

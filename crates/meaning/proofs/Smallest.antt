@@ -1,21 +1,18 @@
--- The masks are the smallest sets, for every well-formed table; closing them takes at most n rounds; mark steps never
--- count, nested trees do.
-use mathlib.Core.Path.{_≡_, refl, subst}
-use mathlib.Core.Bool.{Bool, not, cond, _&&_, _||_}
-use mathlib.Core.List.{List}
+-- The masks are the smallest sets, for every well-formed table, and closing them takes at most n rounds.
+use mathlib.Core.Path.{_≡_, subst}
+use mathlib.Core.Bool.{Bool, not, cond}
 use mathlib.Core.Logic.{_↔_}
-use Prim.Native.Nat.{ℕ, zero, suc, _^_, _<_, _≤_}
+use Prim.Native.Nat.{ℕ, zero, suc, _^_, _<_}
 use native.Mathlib.Omega.{arith}
-use lib.Dec.{T, ltb, ltb→lt, lt→ltb, T-not, not-T}
+use lib.Dec.{T, T-not, not-T}
 use lib.ListN.{getD}
 use lib.Pow.{pow-lt}
-use Rattle.meaning.specs.Masks.{has, added, within, rounds, all, pointsOf, appliesOf, followOf, roundOf, openingsOf, treesOf, accOf, accsOf, safeOf, intoOf, downOf, inDown, finalsOf, othersOf}
+use Rattle.meaning.specs.Masks.{has, added, within, rounds, pointsOf, appliesOf, followOf, roundOf, openingsOf, treesOf, accOf, accsOf, safeOf, intoOf, downOf, finalsOf, othersOf}
 use Rattle.meaning.specs.Sets.{Tree, Acc, Safe, Down}
 use Rattle.meaning.specs.Table.{Table, WellFormed}
 use Rattle.meaning.proofs.Folds.{upto-keeps, upto-gains, upto-lies, cond-keeps, cond-gains, cond-lies, added-lies, collect-give, collect-take, tabulate-at}
 use Rattle.meaning.proofs.Masks.{Within, Lies, IsMask, card-some, has-none, has-lt, only-give, only-take, added-keeps, added-gains, within-give, within-take, small}
 use Rattle.meaning.proofs.Rounds.{LastAfter, rounds-keep, closes, settled}
-use Rattle.meaning.proofs.Tests.{same-test, and-both, and-left, and-right, implies-give, implies-take, all-give, all-take}
 
 -- What a round keeps, gains, and stays within
 
@@ -219,49 +216,3 @@ others-are t q l =
       λ h g. T-not (t .final q) (collect-take (t .states) other q h .1) g,
       λ h. collect-give (t .states) other q l (not-T (t .final q) h),
     )
-
--- Membership in down(q,x) without the set: r is in it exactly when acc(r) passes `inDown`, for any list of 64-bit masks.
-pub in-down :
-    (t : Table) → t .states ≤ 64 → (accs : List ℕ) (q x r : ℕ) → r < t .states → getD accs r 0 < 2 ^ 64 →
-    has (downOf t accs q x) r ≡ inDown t (getD accs r 0) q x
-in-down t few accs q x r l small =
-    let acc : ℕ = getD accs r 0 in
-    let into : ℕ → Bool = λ p. has x (t .apply q p) in
-    let inX : ℕ → Bool = λ r. within (getD accs r 0) (intoOf t q x) in
-    let test : ℕ → Bool = λ p. not (has acc p) || (ltb p (t .states) && into p) in
-    same-test _ _ (
-      λ h. all-give 64 test (λ p m.
-          implies-give (has acc p) (ltb p (t .states) && into p) (λ g.
-          let k = collect-take (t .states) into p (within-take acc (intoOf t q x) (collect-take (t .states) inX r h .1) p g) in
-          and-both (ltb p (t .states)) (into p) (lt→ltb p (t .states) (k .0)) (k .1))),
-      λ h. collect-give (t .states) inX r l (within-give acc (intoOf t q x) (λ p g.
-          let k = implies-take (has acc p) (ltb p (t .states) && into p) (all-take 64 test h p (has-lt 64 acc p small g)) g in
-          collect-give (t .states) into p (ltb→lt p (t .states) (and-left (ltb p (t .states)) (into p) k)) (and-right (ltb p (t .states)) (into p) k))),
-    )
-
--- Mark steps never count: with any other mark steps all the sets are the same masks.
-abbrev pub withMark : Table → (ℕ → ℕ) → Table
-withMark t m =
-    record {
-      states = t .states;
-      labels = t .labels;
-      start = t .start;
-      opening = t .opening;
-      point = t .point;
-      mark = m;
-      apply = t .apply;
-      final = t .final;
-    }
-
-pub marks-never-count :
-    (t : Table) (m : ℕ → ℕ) →
-    (treesOf (withMark t m) ≡ treesOf t)
-    × (accsOf (withMark t m) ≡ accsOf t)
-    × ((accs : List ℕ) (q x : ℕ) → downOf (withMark t m) accs q x ≡ downOf t accs q x)
-marks-never-count t m = (refl, refl, λ accs q x. refl)
-
--- Nested trees do count: with q and p in T, A(q,p) is in T.
-pub nested-trees-count :
-    (t : Table) → WellFormed t → (q p : ℕ) → T (has (treesOf t) q) → T (has (treesOf t) p) → T (has (treesOf t) (t .apply q p))
-nested-trees-count t wf q p h g =
-    trees-are t wf (t .apply q p) .1 (Tree.applied (trees-are t wf q .0 h) (trees-are t wf p .0 g))
