@@ -12,7 +12,7 @@ use Rattle.meaning.specs.Sets.{Tree, Acc}
 use Rattle.meaning.specs.Streams.{Event, Open, Point, Close, Run, marking, run, marked, positions, Reads, Whole, Selects}
 use Rattle.meaning.specs.Table.{Table}
 use Rattle.meaning.proofs.Core.{acc-trans, tree-acc}
-use Rattle.meaning.proofs.Earliest.{reads-join, run-append}
+use Rattle.meaning.proofs.Streams.{reads-join, run-append}
 
 abbrev at : ℕ → ℕ → List ℕ → Run
 at i q s = record { ahead = i; newest = q; aside = s }

@@ -5,6 +5,7 @@ pub mod Rounds
 pub mod Smallest
 pub mod InDown
 pub mod Marks
+pub mod Streams
 pub mod Core
 pub mod Rows
 pub mod Earliest

@@ -32,7 +32,6 @@ pub marks-never-count :
     × ((accs : List ℕ) (q x : ℕ) → downOf (withMark t m) accs q x ≡ downOf t accs q x)
 marks-never-count t m = (refl, refl, λ accs q x. refl)
 
--- Nor do they count in the smallest sets: two tables that differ in their mark steps have the same T and acc.
 module _ (t : Table) (m n : ℕ → ℕ) where
   tree-unmarked : {r : ℕ} → Tree (withMark t m) r → Tree (withMark t n) r
   tree-unmarked (Tree.opened l) = Tree.opened l
@@ -44,6 +43,7 @@ module _ (t : Table) (m n : ℕ → ℕ) where
   acc-unmarked (Acc.pointed h l) = Acc.pointed (acc-unmarked h) l
   acc-unmarked (Acc.applied h g) = Acc.applied (acc-unmarked h) (tree-unmarked g)
 
+-- Nor do they count in the smallest sets: two tables that differ in their mark steps alone have the same T and acc.
 pub marks-never-counted :
     (t : Table) (m n : ℕ → ℕ) (q r : ℕ) →
     (Tree (withMark t m) r ↔ Tree (withMark t n) r) × (Acc (withMark t m) q r ↔ Acc (withMark t n) q r)

@@ -43,6 +43,7 @@ has-zero m = rw div-one
 pub has-none : (i : ℕ) → T (has 0 i) → ⊥
 has-none i h = simp zero-div at h
 
+-- A mask below 2 ^ n has only states below n.
 pub has-lt : (n m i : ℕ) → m < 2 ^ n → T (has m i) → i < n
 has-lt zero m i h g = absurd (has-none i (subst (λ (x : ℕ). T (has x i)) (omega arith) g))
 has-lt (suc n) m zero h g = omega arith
@@ -128,11 +129,13 @@ pub within-give : (a x : ℕ) → Within a x → T (within a x)
 unfolding within
 within-give a x h = rw (within-and a x h) (eqb-refl a)
 
+-- A set in another is the smaller number.
 pub within-le : (x y : ℕ) → Within x y → x ≤ y
 within-le x y h = omega (arith, within-and x y h, and-le-r x y)
 
 -- How many states a set has
 
+-- The states below n that m has, counted.
 abbrev pub card : ℕ → ℕ → ℕ
 card zero m = 0
 card (suc n) m = m % 2 + card n (m / 2)

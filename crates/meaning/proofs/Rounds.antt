@@ -24,6 +24,7 @@ pub record LastAfter (n : ℕ) (f : ℕ → ℕ) (x j : ℕ) : Type 0 where
   pub last : f (rounds j f x) ≡ rounds j f x
 
 module _ (n : ℕ) (f : ℕ → ℕ) (bounded : (x : ℕ) → x < 2 ^ n → f x < 2 ^ n) (grows : (x : ℕ) → Within x (f x)) where
+  -- Rounds stay among the states, and lose nothing.
   pub rounds-lt : (j x : ℕ) → x < 2 ^ n → rounds j f x < 2 ^ n
   rounds-lt zero x l = l
   rounds-lt (suc j) x l = bounded (rounds j f x) (rounds-lt j x l)
@@ -83,11 +84,12 @@ module _ (n : ℕ) (f : ℕ → ℕ) (bounded : (x : ℕ) → x < 2 ^ n → f x 
       go (inl found) = found
       go (inr h) = let b = h .1 in absurd (omega (arith, card-le n (rounds (suc n) f x)))
 
-  -- n rounds are enough.
+  -- After a round that adds nothing, more rounds change nothing.
   stays : (d j x : ℕ) → f (rounds j f x) ≡ rounds j f x → rounds (d + j) f x ≡ rounds j f x
   stays zero j x e = let z : zero + j ≡ j = omega arith in rw z
   stays (suc d) j x e = let z : suc d + j ≡ suc (d + j) = omega arith in rw z (ap f (stays d j x e) ∙ e)
 
+  -- n rounds are enough.
   pub settled : (x : ℕ) → x < 2 ^ n → f (rounds n f x) ≡ rounds n f x
   settled x l =
       let (j, h, c) = closes x l in

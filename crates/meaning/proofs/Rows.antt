@@ -9,15 +9,18 @@ use Rattle.meaning.specs.Streams.{Event, Open, Point, Close, Run, markin
 use Rattle.meaning.specs.Table.{Table, WellFormed}
 use Rattle.meaning.proofs.Masks.{IsMask}
 use Rattle.meaning.proofs.Smallest.{safe-is, down-is}
+use Rattle.meaning.proofs.Streams.{close-ahead}
 
 -- The mask at a level, from the states put aside below it, for the mask of end states f.
 abbrev pub levelMask : Table → ℕ → List ℕ → ℕ
 levelMask t f [] = safeOf (t .states) (accsOf t) f
 levelMask t f (q ∷ s) = downOf t (accsOf t) q (levelMask t f s)
 
+-- The level of state q above the states s put aside.
 abbrev pub levelOf : Table → ℕ → List ℕ → Level
 levelOf t q s = record { state = q; selecting = levelMask t (finalsOf t) s; rejecting = levelMask t (othersOf t) s }
 
+-- The levels of the states put aside.
 abbrev pub levelsOf : Table → List ℕ → List Level
 levelsOf t [] = []
 levelsOf t (q ∷ s) = levelOf t q s ∷ levelsOf t s
@@ -46,10 +49,6 @@ module _ (t : Table) where
   close-row m p [] = refl
   close-row m p (q ∷ s) = refl
 
-  pub close-ahead : (m p : ℕ) (s : List ℕ) → closing t m p s .ahead ≡ m
-  close-ahead m p [] = refl
-  close-ahead m p (q ∷ s) = refl
-
   -- By the rules, a row steps as its run does.
   pub row-follows :
       (w : List Event) (r : Run) →
@@ -63,7 +62,7 @@ module _ (t : Table) where
       ∙ row-follows w (step t r (Point a))
   row-follows (Close ∷ w) r =
       ap (λ (x : Row). followRow t (accsOf t) (r .ahead) x w) (close-row (r .ahead) (r .newest) (r .aside))
-      ∙ ap (λ (m : ℕ). followRow t (accsOf t) m (rowOf t (step t r Close .newest) (step t r Close .aside)) w) (sym (close-ahead (r .ahead) (r .newest) (r .aside)))
+      ∙ ap (λ (m : ℕ). followRow t (accsOf t) m (rowOf t (step t r Close .newest) (step t r Close .aside)) w) (sym (close-ahead t (r .ahead) (r .newest) (r .aside)))
       ∙ row-follows w (step t r Close)
 
   -- The row of position i after w is the row of the run marked at i.

@@ -127,6 +127,7 @@ module _ (t : Table) (wf : WellFormed t) where
       (round-lies t trees (λ r. r < t .states) (λ p. Unit {0}) (λ q a l m. wf .point-in q a l m) (λ q p l m u. wf .apply-in q p l m)
       x (λ r h. tt) (λ r h. has-lt (t .states) x r b h))
 
+  -- The opening states are a set of states.
   pub openings-lt : openingsOf t < 2 ^ t .states
   openings-lt = small (openingsOf t) (t .states) (openings-lie t (λ r. r < t .states) (λ a l. wf .opening-in a l))
 
@@ -176,6 +177,7 @@ module _ (t : Table) (wf : WellFormed t) where
         let s = card-some (t .states) (2 ^ q) q lq (only-give q) in
         (j, omega arith, c)
 
+    -- The list of acc's masks has acc(q) at q.
     pub accs-at : getD (accsOf t) q 0 ≡ accOf t (treesOf t) q
     accs-at = tabulate-at (t .states) (accOf t (treesOf t)) _ q lq
 
@@ -206,10 +208,11 @@ module _ (t : Table) (wf : WellFormed t) where
       (x : ℕ) (X : ℕ → Type 0) → IsMask (t .states) x X → (q : ℕ) → q < t .states → IsMask (t .states) (downOf t (accsOf t) q x) (Down t q X)
   down-is x X same q l = safe-is (intoOf t q x) (λ p. X (t .apply q p)) (into-is x X same q l)
 
--- The masks of the final states and of the others.
+-- The mask of the final states is the set of final states.
 pub finals-are : (t : Table) → IsMask (t .states) (finalsOf t) (λ q. T (t .final q))
 finals-are t q l = (λ h. collect-take (t .states) (t .final) q h .1, λ h. collect-give (t .states) (t .final) q l h)
 
+-- The mask of the others is the set of states that are not final.
 pub others-are : (t : Table) → IsMask (t .states) (othersOf t) (λ q. ¬ T (t .final q))
 others-are t q l =
     let other : ℕ → Bool = λ q. not (t .final q) in (

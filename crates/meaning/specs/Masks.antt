@@ -76,6 +76,7 @@ accOf t trees q = rounds (t .states) (roundOf t trees) (2 ^ q)
 abbrev pub accsOver : Table → ℕ → List ℕ
 accsOver t trees = tabulate (t .states) (accOf t trees) ++ replicate (64 - t .states) 0
 
+-- The same for T itself: what the rules of 01 use.
 abbrev pub accsOf : Table → List ℕ
 accsOf t = accsOver t (treesOf t)
 
