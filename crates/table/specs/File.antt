@@ -22,6 +22,7 @@ pub record Sizes (f : List ℕ) (n k : ℕ) : Type 0 where
   pub few-states : n ≤ 64
   pub few-labels : k ≤ 32
 
+-- x is from low to high.
 abbrev pub between : ℕ → ℕ → ℕ → Bool
 between low high x = leb low x && leb x high
 
