@@ -1,5 +1,5 @@
--- Rounds that only add: a set of states below n is closed after at most n of them. Assumes nothing of the step but that
--- it stays below n and loses nothing.
+-- Rounds of a step that only adds: a set of states below n is closed after at most n of them. Assumes nothing else of the
+-- step.
 use mathlib.Core.Path.{_≡_, refl, ap, sym, _∙_}
 use mathlib.Core.Logic.{_⊎_, inl, inr}
 use Prim.Native.Nat.{ℕ, zero, suc, _+_, _-_, _^_, _<_, _≤_}
@@ -23,15 +23,20 @@ pub record LastAfter (n : ℕ) (f : ℕ → ℕ) (x j : ℕ) : Type 0 where
   pub adding : (i : ℕ) → i < j → card n (rounds i f x) < card n (rounds (suc i) f x)
   pub last : f (rounds j f x) ≡ rounds j f x
 
-module _ (n : ℕ) (f : ℕ → ℕ) (bounded : (x : ℕ) → x < 2 ^ n → f x < 2 ^ n) (grows : (x : ℕ) → Within x (f x)) where
+-- A step on the sets of states below n that only adds: it stays among them and loses nothing.
+pub record OnlyAdds (n : ℕ) (f : ℕ → ℕ) : Type 0 where
+  pub bounded : (x : ℕ) → x < 2 ^ n → f x < 2 ^ n
+  pub grows : (x : ℕ) → Within x (f x)
+
+module _ {n : ℕ} {f : ℕ → ℕ} (adds : OnlyAdds n f) where
   -- Rounds stay among the states, and lose nothing.
   pub rounds-lt : (j x : ℕ) → x < 2 ^ n → rounds j f x < 2 ^ n
   rounds-lt zero x l = l
-  rounds-lt (suc j) x l = bounded (rounds j f x) (rounds-lt j x l)
+  rounds-lt (suc j) x l = adds .bounded (rounds j f x) (rounds-lt j x l)
 
   pub rounds-keep : (j x : ℕ) → Within x (rounds j f x)
   rounds-keep zero x i h = h
-  rounds-keep (suc j) x i h = grows (rounds j f x) i (rounds-keep j x i h)
+  rounds-keep (suc j) x i h = adds .grows (rounds j f x) i (rounds-keep j x i h)
 
   -- A round adds a state or changes nothing.
   pub adds-or-last : (x : ℕ) → x < 2 ^ n → (f x ≡ x) ⊎ (card n x < card n (f x))
@@ -39,8 +44,8 @@ module _ (n : ℕ) (f : ℕ → ℕ) (bounded : (x : ℕ) → x < 2 ^ n → f x 
     where
       go : Dec (card n (f x) ≤ card n x) → (f x ≡ x) ⊎ (card n x < card n (f x))
       go (yes h) =
-          let m = card-within n x (f x) (grows x) in
-          inl (sym (card-same n x (f x) l (bounded x l) (grows x) (omega arith)))
+          let m = card-within n x (f x) (adds .grows x) in
+          inl (sym (card-same n x (f x) l (adds .bounded x l) (adds .grows x) (omega arith)))
       go (no h) = inr (omega arith)
 
   -- Among the first j rounds is the last one, or each of them added a state.
@@ -107,4 +112,4 @@ module _ (n : ℕ) (f : ℕ → ℕ) (bounded : (x : ℕ) → x < 2 ^ n → f x 
     where
       go : Dec (x < f x) → x < f x
       go (yes l) = l
-      go (no l) = absurd (h (omega (arith, within-le x (f x) (grows x))))
+      go (no l) = absurd (h (omega (arith, within-le x (f x) (adds .grows x))))

@@ -12,7 +12,7 @@ use Rattle.meaning.specs.Sets.{Tree, Acc, Safe, Down}
 use Rattle.meaning.specs.Table.{Table, WellFormed}
 use Rattle.meaning.proofs.Folds.{upto-keeps, upto-gains, upto-lies, cond-keeps, cond-gains, cond-lies, added-lies, collect-give, collect-take, tabulate-at}
 use Rattle.meaning.proofs.Masks.{Within, Lies, IsMask, card-some, has-none, has-lt, only-give, only-take, added-keeps, added-gains, within-give, within-take, small}
-use Rattle.meaning.proofs.Rounds.{LastAfter, rounds-keep, closes, settled}
+use Rattle.meaning.proofs.Rounds.{OnlyAdds, LastAfter, rounds-keep, closes, settled}
 
 -- What a round keeps, gains, and stays within
 
@@ -121,22 +121,29 @@ module _ (t : Table) (wf : WellFormed t) where
   acc-in l (Acc.applied h g) = wf .apply-in _ _ (acc-in l h) (tree-in g)
 
   -- A round over a set of states is a set of states.
-  pub round-lt : (trees x : ℕ) → x < 2 ^ t .states → roundOf t trees x < 2 ^ t .states
+  round-lt : (trees x : ℕ) → x < 2 ^ t .states → roundOf t trees x < 2 ^ t .states
   round-lt trees x b =
       small (roundOf t trees x) (t .states)
       (round-lies t trees (λ r. r < t .states) (λ p. Unit {0}) (λ q a l m. wf .point-in q a l m) (λ q p l m u. wf .apply-in q p l m)
       x (λ r h. tt) (λ r h. has-lt (t .states) x r b h))
+
+  -- The rounds by which T and acc are closed only add.
+  pub acc-adds : (trees : ℕ) → OnlyAdds (t .states) (roundOf t trees)
+  acc-adds trees = record { bounded = round-lt trees; grows = round-keeps t trees }
+
+  pub trees-adds : OnlyAdds (t .states) (λ x. roundOf t x x)
+  trees-adds = record { bounded = λ x. round-lt x x; grows = λ x. round-keeps t x x }
 
   -- The opening states are a set of states.
   pub openings-lt : openingsOf t < 2 ^ t .states
   openings-lt = small (openingsOf t) (t .states) (openings-lie t (λ r. r < t .states) (λ a l. wf .opening-in a l))
 
   trees-fixed : roundOf t (treesOf t) (treesOf t) ≡ treesOf t
-  trees-fixed = settled (t .states) (λ x. roundOf t x x) (λ x. round-lt x x) (λ x. round-keeps t x x) (openingsOf t) openings-lt
+  trees-fixed = settled trees-adds (openingsOf t) openings-lt
 
   trees-complete : {r : ℕ} → Tree t r → T (has (treesOf t) r)
   trees-complete (Tree.opened {a = a} l) =
-      rounds-keep (t .states) (λ x. roundOf t x x) (λ x. round-lt x x) (λ x. round-keeps t x x) (t .states) (openingsOf t) (t .opening a) (openings-in t a l)
+      rounds-keep trees-adds (t .states) (openingsOf t) (t .opening a) (openings-in t a l)
   trees-complete (Tree.pointed {q = q} {a = a} h l) =
       rw (← trees-fixed) (round-points t (treesOf t) (treesOf t) q a (tree-in h) (trees-complete h) l)
   trees-complete (Tree.applied {q = q} {p = p} h g) =
@@ -149,18 +156,18 @@ module _ (t : Table) (wf : WellFormed t) where
   -- Closing T takes at most n rounds: j < n of them add a state each, and the next is the last.
   pub trees-close : (j : ℕ) × (j < t .states) × LastAfter (t .states) (λ x. roundOf t x x) (openingsOf t) j
   trees-close =
-      let (j, h, c) = closes (t .states) (λ x. roundOf t x x) (λ x. round-lt x x) (λ x. round-keeps t x x) (openingsOf t) openings-lt in
+      let (j, h, c) = closes trees-adds (openingsOf t) openings-lt in
       let s = card-some (t .states) (openingsOf t) (t .opening 0) (wf .opening-in 0 (wf .some-label)) (openings-in t 0 (wf .some-label)) in
       (j, omega arith, c)
 
   module _ (q : ℕ) (lq : q < t .states) where
     acc-fixed : roundOf t (treesOf t) (accOf t (treesOf t) q) ≡ accOf t (treesOf t) q
     acc-fixed =
-        settled (t .states) (roundOf t (treesOf t)) (round-lt (treesOf t)) (round-keeps t (treesOf t)) (2 ^ q) (pow-lt lq)
+        settled (acc-adds (treesOf t)) (2 ^ q) (pow-lt lq)
 
     acc-complete : {r : ℕ} → Acc t q r → T (has (accOf t (treesOf t) q) r)
     acc-complete Acc.here =
-        rounds-keep (t .states) (roundOf t (treesOf t)) (round-lt (treesOf t)) (round-keeps t (treesOf t)) (t .states) (2 ^ q) q (only-give q)
+        rounds-keep (acc-adds (treesOf t)) (t .states) (2 ^ q) q (only-give q)
     acc-complete (Acc.pointed {r = r} {a = a} h l) =
         rw (← acc-fixed) (round-points t (treesOf t) (accOf t (treesOf t) q) r a (acc-in lq h) (acc-complete h) l)
     acc-complete (Acc.applied {r = r} {p = p} h g) =
@@ -173,7 +180,7 @@ module _ (t : Table) (wf : WellFormed t) where
     -- Closing acc(q) takes at most n rounds: j < n of them add a state each, and the next is the last.
     pub acc-closes : (j : ℕ) × (j < t .states) × LastAfter (t .states) (roundOf t (treesOf t)) (2 ^ q) j
     acc-closes =
-        let (j, h, c) = closes (t .states) (roundOf t (treesOf t)) (round-lt (treesOf t)) (round-keeps t (treesOf t)) (2 ^ q) (pow-lt lq) in
+        let (j, h, c) = closes (acc-adds (treesOf t)) (2 ^ q) (pow-lt lq) in
         let s = card-some (t .states) (2 ^ q) q lq (only-give q) in
         (j, omega arith, c)
 

@@ -3,7 +3,7 @@ use Prim.Native.Nat.{_-_, _^_}
 use lib.Pow.{pow-lt}
 use Rattle.meaning.specs.Masks.{roundOf}
 use Rattle.meaning.specs.Table.{tableOf}
-use Rattle.meaning.proofs.Smallest.{round-lt, round-keeps}
+use Rattle.meaning.proofs.Smallest.{acc-adds}
 use Rattle.closing.proofs.StopEarly.{OnTheWay, way-begins, way-goes-on, way-shortens, way-ends}
 use Rattle.bodies.proofs.Fits.{state-fits}
 use Rattle.masks.proofs.Turns.{one-shifted}
@@ -22,9 +22,7 @@ shl-x c = state-fits _ (c .before .pre .0) (c .before .args .q) (c .before .pre 
 loop-holds : tie.Need-loop-holds Inv-loop μ-loop
 loop-holds c =
     let s = c .before in
-    let t = tableOf (s .args .table .now) in
-    rw (one-shifted (s .args .q) (state-fits _ (s .pre .0) (s .args .q) (s .pre .1)))
-    (way-begins (t .states) (roundOf t (s .args .trees)) (round-lt t (s .pre .0 .formed) (s .args .trees)) (round-keeps t (s .args .trees)) (2 ^ s .args .q) (pow-lt (s .pre .1)))
+    rw (one-shifted (s .args .q) (state-fits _ (s .pre .0) (s .args .q) (s .pre .1))) (way-begins _ (pow-lt (s .pre .1)))
 
 round-requires : tie.Need-round-requires Inv-loop μ-loop
 round-requires c κs = c .before .before .pre .0
@@ -32,23 +30,17 @@ round-requires c κs = c .before .before .pre .0
 loop-less : tie.Need-loop-less Inv-loop μ-loop
 loop-less c =
     let s = c .before .before .before .before in
-    let l = c .before .before .loop in
-    let t = tableOf (s .args .table .now) in
-    way-shortens (t .states) (roundOf t (s .args .trees)) (round-lt t (s .pre .0 .formed) (s .args .trees)) (round-keeps t (s .args .trees)) (2 ^ s .args .q) (l .x) (c .before .round .result) (c .before .round .ensures) (l .inv) (c .if1 .left)
+    way-shortens (acc-adds _ (s .pre .0 .formed) (s .args .trees)) (c .before .round .ensures) (c .before .before .loop .inv) (c .if1 .left)
 
 loop-again : tie.Need-loop-again Inv-loop μ-loop
 loop-again c =
     let s = c .before .before .before .before in
-    let l = c .before .before .loop in
-    let t = tableOf (s .args .table .now) in
-    way-goes-on (t .states) (roundOf t (s .args .trees)) (round-lt t (s .pre .0 .formed) (s .args .trees)) (round-keeps t (s .args .trees)) (2 ^ s .args .q) (l .x) (c .before .round .result) (c .before .round .ensures) (l .inv)
+    way-goes-on (acc-adds _ (s .pre .0 .formed) (s .args .trees)) (c .before .round .ensures) (c .before .before .loop .inv)
 
 returns : tie.Need-returns Inv-loop μ-loop
 returns c =
     let s = c .before .before .before .before in
-    let l = c .before .before .loop in
-    let t = tableOf (s .args .table .now) in
-    way-ends (t .states) (roundOf t (s .args .trees)) (round-lt t (s .pre .0 .formed) (s .args .trees)) (round-keeps t (s .args .trees)) (2 ^ s .args .q) (l .x) (c .before .round .result) (c .before .round .ensures) (l .inv) (c .if1 .taken)
+    way-ends (acc-adds _ (s .pre .0 .formed) (s .args .trees)) (c .before .round .ensures) (c .before .before .loop .inv) (c .if1 .taken)
 
 pub acc-spec : {M : Type 1} → statement M
 acc-spec =

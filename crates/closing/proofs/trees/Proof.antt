@@ -3,7 +3,7 @@ use borrow.Author.Needs.{needs}
 use Prim.Native.Nat.{_-_, _^_}
 use Rattle.meaning.specs.Masks.{roundOf, openingsOf}
 use Rattle.meaning.specs.Table.{tableOf}
-use Rattle.meaning.proofs.Smallest.{round-lt, round-keeps, openings-lt}
+use Rattle.meaning.proofs.Smallest.{trees-adds, openings-lt}
 use Rattle.closing.proofs.StopEarly.{OnTheWay, way-begins, way-goes-on, way-shortens, way-ends}
 use Rattle.closing.proofs.trees.Statement.{statement}
 use Rattle.closing.proofs.trees.Tie as tie
@@ -18,11 +18,7 @@ openings-requires : tie.Need-openings-requires Inv-loop μ-loop
 openings-requires c κs = search needs
 
 loop-holds : tie.Need-loop-holds Inv-loop μ-loop
-loop-holds c =
-    let s = c .before .before in
-    let t = tableOf (s .args .table .now) in
-    rw (c .openings .ensures)
-    (way-begins (t .states) (λ z. roundOf t z z) (λ z. round-lt t (s .pre .formed) z z) (λ z. round-keeps t z z) (openingsOf t) (openings-lt t (s .pre .formed)))
+loop-holds c = rw (c .openings .ensures) (way-begins _ (openings-lt _ (c .before .before .pre .formed)))
 
 round-requires : tie.Need-round-requires Inv-loop μ-loop
 round-requires c κs = c .before .before .before .pre
@@ -30,23 +26,17 @@ round-requires c κs = c .before .before .before .pre
 loop-less : tie.Need-loop-less Inv-loop μ-loop
 loop-less c =
     let s = c .before .before .before .before .before in
-    let l = c .before .before .loop in
-    let t = tableOf (s .args .table .now) in
-    way-shortens (t .states) (λ z. roundOf t z z) (λ z. round-lt t (s .pre .formed) z z) (λ z. round-keeps t z z) (openingsOf t) (l .x) (c .before .round .result) (c .before .round .ensures) (l .inv) (c .if1 .left)
+    way-shortens (trees-adds _ (s .pre .formed)) (c .before .round .ensures) (c .before .before .loop .inv) (c .if1 .left)
 
 loop-again : tie.Need-loop-again Inv-loop μ-loop
 loop-again c =
     let s = c .before .before .before .before .before in
-    let l = c .before .before .loop in
-    let t = tableOf (s .args .table .now) in
-    way-goes-on (t .states) (λ z. roundOf t z z) (λ z. round-lt t (s .pre .formed) z z) (λ z. round-keeps t z z) (openingsOf t) (l .x) (c .before .round .result) (c .before .round .ensures) (l .inv)
+    way-goes-on (trees-adds _ (s .pre .formed)) (c .before .round .ensures) (c .before .before .loop .inv)
 
 returns : tie.Need-returns Inv-loop μ-loop
 returns c =
     let s = c .before .before .before .before .before in
-    let l = c .before .before .loop in
-    let t = tableOf (s .args .table .now) in
-    way-ends (t .states) (λ z. roundOf t z z) (λ z. round-lt t (s .pre .formed) z z) (λ z. round-keeps t z z) (openingsOf t) (l .x) (c .before .round .result) (c .before .round .ensures) (l .inv) (c .if1 .taken)
+    way-ends (trees-adds _ (s .pre .formed)) (c .before .round .ensures) (c .before .before .loop .inv) (c .if1 .taken)
 
 pub trees-spec : {M : Type 1} → statement M
 trees-spec =
