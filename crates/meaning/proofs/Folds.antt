@@ -12,7 +12,6 @@ use lib.ListN.{getD, set, replicate, length, length-append}
 use lib.Seq.{append-snoc, getD-append-seam, set-append-seam}
 use Rattle.meaning.specs.Masks.{has, added, upto, collect, tabulate}
 use Rattle.meaning.proofs.Masks.{Within, Lies, has-none, added-keeps, added-gains, added-cases}
-use Rattle.meaning.proofs.Tests.{same-test}
 
 -- A step that only adds loses nothing, and gains at each turn what that turn gains from any larger set.
 module _ (f : ℕ → ℕ → ℕ) (keeps : (i y : ℕ) → Within y (f i y)) where
@@ -70,9 +69,6 @@ module _ (n : ℕ) (test : ℕ → Bool) where
       upto-lies (λ q x. cond (test q) (added x q) x) Passes n
       (λ q x l h. cond-lies (test q) x (added x q) Passes (λ g. added-lies x q Passes h (l, g)) h)
       0 (λ r h. absurd (has-none r h))
-
-  pub collect-has : (r : ℕ) → r < n → has (collect n test) r ≡ test r
-  collect-has r l = same-test _ _ (λ h. collect-take r h .1, λ h. collect-give r l h)
 
 -- A table of values
 

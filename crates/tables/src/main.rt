@@ -1,8 +1,9 @@
 // Tries the reader of table files at the edges of each line of refusals, and shows the sets of a table.
 //
 // A line a try: which table (n = 1 and k = 1, or n = 64 and k = 32, all its states 0), how many of its bytes are read,
-// which byte is set to what, and the answer: "taken n k", or "refused" with 01's number. Then the sets of the table on
-// standard input: with 01's table W these are the document's cases 1 to 6.
+// which byte is set to what, and the answer: "taken n k", or "refused" with 01's number. Then the same answer for the
+// table on standard input and, where it has three states or more, some of its sets: with 01's table W these are the
+// document's cases 1 to 6.
 ghost use Prim.Native.Nat.{_<_, _≤_};
 ghost use Rattle.bodies.specs.Sound.{Sound};
 ghost use Rattle.meaning.specs.Table.{tableOf};
@@ -192,9 +193,17 @@ fn show_file(file: &[u8]) {
     }
 }
 
+// What `read` answers of the file, and its sets.
+fn judge(file: &[u8]) {
+    say(b"standard input: ");
+    answer(file);
+    say(b"\n");
+    show_file(file);
+}
+
 fn main() {
     try_all();
     let mut file = [0u8; 6334];
     let bytes = io::read_full(STDIN_FILENO, &mut file);
-    show_file(&file[..bytes]);
+    judge(&file[..bytes]);
 }
