@@ -1,0 +1,3 @@
+pub mod Record
+pub mod Bytes
+pub mod Answers

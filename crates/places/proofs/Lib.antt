@@ -1,0 +1,4 @@
+pub mod Words
+pub mod Zeros
+pub mod Sets
+pub mod Each

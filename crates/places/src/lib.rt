@@ -1,0 +1,65 @@
+// Where a word stands in work memory: the one place in code that computes it.
+//
+// Rows and levels are counted from 0. A row's words are counted from its own first word, the memory's from row 0.
+ghost use mathlib.Core.Path.{_≡_};
+ghost use Prim.Native.Nat.{_<_, _≤_};
+ghost use Rattle.places.specs.Places.{stateAt, selectingAt, rejectingAt, levelOf, partOf, rowLength, workLength};
+
+// Where its position stands in a row.
+pub const POSITION: usize = 0;
+
+// Where the state of a level stands in its row.
+pub fn state_at(level: usize) -> usize
+    requires { ⌜ level ≤ 41 ⌝ }
+    ensures { λ r. ⌜ r ≡ stateAt level ⌝ }
+{
+    1 + 3 * level
+}
+
+// Where the selecting set of a level stands in its row.
+pub fn selecting_at(level: usize) -> usize
+    requires { ⌜ level ≤ 41 ⌝ }
+    ensures { λ r. ⌜ r ≡ selectingAt level ⌝ }
+{
+    state_at(level) + 1
+}
+
+// Where the rejecting set of a level stands in its row.
+pub fn rejecting_at(level: usize) -> usize
+    requires { ⌜ level ≤ 41 ⌝ }
+    ensures { λ r. ⌜ r ≡ rejectingAt level ⌝ }
+{
+    state_at(level) + 2
+}
+
+// The level that a word of a row belongs to, its position apart.
+pub fn level_of(c: usize) -> usize
+    requires { ⌜ 0 < c ⌝ }
+    ensures { λ r. ⌜ r ≡ levelOf c ⌝ }
+{
+    (c - 1) / 3
+}
+
+// Which word of its level that is: 0 the state.
+pub fn part_of(c: usize) -> usize
+    requires { ⌜ 0 < c ⌝ }
+    ensures { λ r. ⌜ r ≡ partOf c ⌝ }
+{
+    (c - 1) % 3
+}
+
+// How many words a row has.
+pub fn row_length(depth: usize) -> usize
+    requires { ⌜ depth ≤ 40 ⌝ }
+    ensures { λ r. ⌜ r ≡ rowLength depth ⌝ }
+{
+    state_at(depth + 1)
+}
+
+// How many words work memory has.
+pub fn work_length(rows: usize, depth: usize) -> usize
+    requires { ⌜ (rows ≤ 64) × (depth ≤ 40) ⌝ }
+    ensures { λ r. ⌜ r ≡ workLength rows depth ⌝ }
+{
+    (rows + 1) * row_length(depth)
+}
