@@ -1,4 +1,5 @@
 pub mod Words
 pub mod Zeros
 pub mod Sets
-pub mod Each
+pub mod Rows
+pub mod Good

@@ -12,7 +12,7 @@ use Rattle.meaning.specs.Table.{Table}
 use Rattle.meaning.specs.Rows.{isSelecting, isRejecting}
 use Rattle.places.specs.Places.{rowOf}
 use Rattle.places.specs.Memory.{Held, each, heldIn, heldsIn}
-use Rattle.places.proofs.Each.{each-more}
+use Rattle.places.proofs.Rows.{each-next}
 use Rattle.reports.specs.Reports.{selectedWord, failedWord, reportOf, endReport, putAt, onFront}
 
 put-one : (at x : ℕ) (words : List ℕ) → at < length words → set words at x ≡ putAt at (x ∷ []) words
@@ -75,8 +75,8 @@ module _ (f : Held → List ℕ) where
         most = omega arith;
         few = omega (arith, a, i .few, one (heldIn d (rowOf w r words)));
         len = l ∙ i .len;
-        counted = rw (each-more f w d r words, length-append x y) (a ∙ ap (λ k. k + length y) (i .counted));
-        written = rw (each-more f w d r words) (b ∙ ap (λ z. putAt count y z) (i .written) ∙ ap (λ k. putAt k y (onFront x reports₀)) (i .counted) ∙ put-more x y reports₀);
+        counted = rw (each-next f w d r words, length-append x y) (a ∙ ap (λ k. k + length y) (i .counted));
+        written = rw (each-next f w d r words) (b ∙ ap (λ z. putAt count y z) (i .written) ∙ ap (λ k. putAt k y (onFront x reports₀)) (i .counted) ∙ put-more x y reports₀);
       }
 
 pub report-few : (h : Held) → length (reportOf h) ≤ 1

@@ -5,7 +5,7 @@ use native.Mathlib.Nat.{add-sub-cancel-left}
 use native.Mathlib.Omega.{arith}
 use lib.ListN.{length}
 use Rattle.meaning.specs.Table.{tableOf}
-use Rattle.places.proofs.Each.{row-fits}
+use Rattle.places.proofs.Rows.{row-fits}
 use Rattle.reports.specs.Reports.{endReport}
 use Rattle.reports.proofs.Puts.{Reported, reported-none, reported-more}
 use Rattle.reports.proofs.report_ends.Statement.{statement}

@@ -6,7 +6,7 @@ use native.Mathlib.Nat.{add-sub-cancel-left}
 use native.Mathlib.Omega.{arith}
 use lib.ListN.{length}
 use Rattle.places.specs.Memory.{heldsIn}
-use Rattle.places.proofs.Each.{row-fits}
+use Rattle.places.proofs.Rows.{row-fits}
 use Rattle.reports.specs.Reports.{reportOf, reportsOf, onFront}
 use Rattle.reports.proofs.Puts.{Reported, reported-none, reported-more, report-few}
 use Rattle.reports.proofs.report_rows.Statement.{statement}

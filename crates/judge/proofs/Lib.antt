@@ -1,0 +1,4 @@
+pub mod Laws
+pub mod Following
+pub mod Numbers
+pub mod Passed
