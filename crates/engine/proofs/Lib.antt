@@ -1,0 +1,5 @@
+pub mod Ready
+pub mod Taking
+pub mod Starting
+pub mod Numbers
+pub mod Unique

@@ -1,0 +1,120 @@
+-- Each number that a call answers is given exactly when its line applies and none before it does; a refused call keeps
+-- what it was lent. Assumes nothing.
+use mathlib.Core.Bool.{Bool, true, false, cond}
+use mathlib.Core.List.{List}
+use mathlib.Core.Logic.{_↔_}
+use mathlib.Core.Path.{_≡_, refl, sym, ap, _∙_}
+use Prim.Native.Nat.{ℕ, _+_, _<_}
+use native.Mathlib.Omega.{arith}
+use lib.Dec.{eqb}
+use lib.ListN.{length}
+use borrow.Author.Tests.{eqb-true, ltb-true, lt-ltb}
+use Rattle.meaning.specs.Table.{tableOf}
+use Rattle.meaning.specs.Refusals.{Line, FirstAt, firstOf, appliesAt, givesAt}
+use Rattle.meaning.proofs.Refusals.{given-exactly, taken-exactly, none-taken}
+use Rattle.meaning.proofs.Tests.{all-holds}
+use Rattle.answers.specs.declared.Record.{Record}
+use Rattle.answers.specs.declared.Refusal.the-variants as why
+use Rattle.answers.specs.Record.{noRecord}
+use Rattle.answers.specs.Bytes.{meaningOf}
+use Rattle.answers.specs.Answers.{outcomeNumber}
+use Rattle.judge.specs.declared.Judged.{Judged}
+use Rattle.judge.specs.declared.Judged.the-variants.{Fine, Refused}
+use Rattle.judge.specs.Judging.{judgedNumber, judgedLines, startLines}
+use Rattle.judge.proofs.Following.{first-append}
+use Rattle.judge.proofs.Numbers as judge
+use Rattle.engine.specs.Calls.{After, lines, rowsLines, taking, unless, answerOf}
+use Rattle.engine.specs.Calls.{eventJudged, eventAfter, eventAnswer, eventWork, eventReports}
+use Rattle.engine.specs.Calls.{startJudged, startAfter, startAnswer, startWork}
+
+-- An answer has the number of its judgement.
+answer-number : (j : Judged) (r : Record) (after : After) → outcomeNumber (answerOf j r after .outcome) ≡ judgedNumber j
+answer-number Fine r after = refl
+answer-number (Refused why) r after = refl
+
+-- A judgement with a number above 0 keeps the old record, and the old of anything else.
+old-next : (j : Judged) (r : Record) (after : After) → 0 < outcomeNumber (answerOf j r after .outcome) → answerOf j r after .next ≡ r
+old-next Fine r after h = absurd (omega (arith, h))
+old-next (Refused why) r after h = refl
+
+old-kept : (j : Judged) (r : Record) (after : After) (old new : List ℕ) → 0 < outcomeNumber (answerOf j r after .outcome) → unless j old new ≡ old
+old-kept Fine r after old new h = absurd (omega (arith, h))
+old-kept (Refused why) r after old new h = refl
+
+module _ (f : List ℕ) (r : Record) (work reports : List ℕ) (byte : ℕ) where
+  answered : outcomeNumber (eventAnswer f r work reports byte .outcome) ≡ judgedNumber (eventJudged f r work reports byte)
+  answered = answer-number (eventJudged f r work reports byte) r (eventAfter f r work byte)
+
+  -- An event: number i + 1, from 1 to 15, is answered exactly when line i, counted from 0, applies and none before it
+  -- does.
+  pub event-exactly :
+      (i : ℕ) → i < 15 →
+      (outcomeNumber (eventAnswer f r work reports byte .outcome) ≡ i + 1) ↔ FirstAt (lines f r work (length reports) (meaningOf byte)) i
+  event-exactly i l =
+      let ls : List (Line Judged) = lines f r work (length reports) (meaningOf byte) in
+      let test : ℕ → Bool = λ i. eqb (judgedNumber (givesAt ls Fine i)) (i + 1) in
+      let number : judgedNumber (givesAt ls Fine i) ≡ i + 1 = eqb-true _ _ (all-holds 15 test refl i l) in
+      let exactly = given-exactly judgedNumber Fine ls tt i l in
+      (λ h. exactly .0 (sym answered ∙ h ∙ sym number), λ h. answered ∙ exactly .1 h ∙ number)
+
+  -- An event is taken exactly when no line applies.
+  pub event-taken :
+      (outcomeNumber (eventAnswer f r work reports byte .outcome) ≡ 0)
+      ↔ ((i : ℕ) → appliesAt (lines f r work (length reports) (meaningOf byte)) i ≡ false)
+  event-taken =
+      let exactly = taken-exactly judgedNumber Fine (lines f r work (length reports) (meaningOf byte)) tt in
+      (λ h. exactly .0 (sym answered ∙ h), λ h. answered ∙ exactly .1 h)
+
+  -- A refused event gives its record back, and leaves work memory and reports as they were.
+  pub refused-keeps :
+      0 < outcomeNumber (eventAnswer f r work reports byte .outcome) →
+      (eventAnswer f r work reports byte .next ≡ r) × (eventWork f r work reports byte ≡ work) × (eventReports f r work reports byte ≡ reports)
+  refused-keeps h =
+      let j = eventJudged f r work reports byte in
+      let after = eventAfter f r work byte in
+      (old-next j r after h, old-kept j r after work _ h, old-kept j r after reports _ h)
+
+  -- Where none of 1 to 14 applies: 15 is given exactly when more positions would be alive after the event than rows.
+  pub room-exactly :
+      firstOf (judgedLines f r work (length reports) (meaningOf byte)) Fine ≡ Fine →
+      (eventJudged f r work reports byte ≡ Refused why.Rows) ↔ (r .rows < taking (tableOf f) r work (meaningOf byte) .next .alive)
+  room-exactly h =
+      let ls : List (Line Judged) = judgedLines f r work (length reports) (meaningOf byte) in
+      let last : Judged = firstOf (rowsLines r (eventAfter f r work byte)) Fine in
+      let none = judge.judged-none f r work (length reports) (meaningOf byte) .0 (ap judgedNumber h) in
+      let whole : eventJudged f r work reports byte ≡ last = first-append ls (rowsLines r (eventAfter f r work byte)) Fine ∙ none-taken judgedNumber last ls none in
+      (λ g. ltb-true _ _ (full _ (sym whole ∙ g)), λ g. whole ∙ ap (λ (b : Bool). cond b (Refused why.Rows) Fine) (lt-ltb _ _ g))
+    where
+      full : (b : Bool) → cond b (Refused why.Rows) Fine ≡ Refused why.Rows → b ≡ true
+      full true e = refl
+      full false e =
+          let n : judgedNumber Fine ≡ judgedNumber (Refused why.Rows) = ap judgedNumber e in
+          absurd (omega (arith, n))
+
+module _ (f : List ℕ) (rows depth : ℕ) (work : List ℕ) where
+  started : outcomeNumber (startAnswer f rows depth work .outcome) ≡ judgedNumber (startJudged f rows depth work)
+  started = answer-number (startJudged f rows depth work) noRecord (startAfter f rows depth)
+
+  -- A start: the same of 1 to 6.
+  pub start-exactly :
+      (i : ℕ) → i < 6 →
+      (outcomeNumber (startAnswer f rows depth work .outcome) ≡ i + 1) ↔ FirstAt (startLines f rows depth (length work)) i
+  start-exactly i l =
+      let exactly = judge.start-exactly f rows depth (length work) i l in
+      (λ h. exactly .0 (sym started ∙ h), λ h. started ∙ exactly .1 h)
+
+  pub start-taken :
+      (outcomeNumber (startAnswer f rows depth work .outcome) ≡ 0)
+      ↔ ((i : ℕ) → appliesAt (startLines f rows depth (length work)) i ≡ false)
+  start-taken =
+      let exactly = judge.start-none f rows depth (length work) in
+      (λ h. exactly .0 (sym started ∙ h), λ h. started ∙ exactly .1 h)
+
+  -- A refused start gives a record of zeros, and leaves work memory as it was.
+  pub start-refused-keeps :
+      0 < outcomeNumber (startAnswer f rows depth work .outcome) →
+      (startAnswer f rows depth work .next ≡ noRecord) × (startWork f rows depth work ≡ work)
+  start-refused-keeps h =
+      let j = startJudged f rows depth work in
+      let after = startAfter f rows depth in
+      (old-next j noRecord after h, old-kept j noRecord after work _ h)
