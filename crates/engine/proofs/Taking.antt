@@ -1,5 +1,5 @@
 -- The answer of an event whose lines are judged: refused by 1 to 14, for want of rows, or taken. Assumes nothing.
-use mathlib.Core.Path.{_≡_, refl, sym, ap, _∙_}
+use mathlib.Core.Path.{_≡_, refl, sym, ap, _∙_, subst}
 use mathlib.Core.Bool.{Bool, true, false, cond}
 use mathlib.Core.List.{List, [], _∷_, _++_}
 use Prim.Native.Nat.{ℕ, suc, _+_, _<_, _≤_}
@@ -10,14 +10,14 @@ use Rattle.meaning.specs.Table.{Table, tableOf}
 use Rattle.meaning.specs.Masks.{accsOf}
 use Rattle.meaning.specs.Refusals.{Line, firstOf}
 use Rattle.meaning.specs.Streams as stream
-use Rattle.bodies.specs.Sound.{labelsIn}
+use Rattle.bodies.specs.Sound.{Sound, statesIn, labelsIn}
 use Rattle.places.specs.Places.{rowLength}
 use Rattle.places.specs.Memory.{Held, Memory}
 use Rattle.rows.specs.declared.Step.{Step}
 use Rattle.rows.specs.declared.Step.the-variants as step
 use Rattle.rows.specs.Steps.{eventOf, Can}
 use Rattle.reports.specs.Reports.{endReports, onFront}
-use Rattle.stepping.specs.Stepping.{Counted, stepMemory}
+use Rattle.stepping.specs.Stepping.{Stands, Counted, stepMemory}
 use Rattle.answers.specs.declared.Record.{Record}
 use Rattle.answers.specs.declared.Answer.{Answer}
 use Rattle.answers.specs.declared.Event.{Event}
@@ -30,7 +30,8 @@ use Rattle.judge.specs.declared.Judged.{Judged}
 use Rattle.judge.specs.declared.Judged.the-variants.{Fine, Refused}
 use Rattle.judge.specs.Judging.{refuses, judgedLines}
 use Rattle.judge.proofs.Following.{first-append}
-use Rattle.judge.proofs.Passed.{EventPassed}
+use Rattle.judge.proofs.Passed.{EventPassed, passed, event-passed}
+use Rattle.engine.proofs.Ready.{ready}
 use Rattle.engine.specs.Calls.{After, accsFor, taking, rowsLines, unless, answerOf, roomJudged, roomAnswer, roomWork, roomReports}
 use Rattle.engine.specs.Calls.{eventAfter, eventAnswer, eventWork, eventReports}
 
@@ -110,28 +111,48 @@ byteEvent step.Close = event.Close
 module _ (f : List ℕ) (r : Record) (work reports : List ℕ) (byte : ℕ) where
   -- What it answers and leaves.
   abbrev pub Answers : Answer → List ℕ → List ℕ → Type 0
-  Answers x w p = (x ≡ eventAnswer f r work reports byte) × (w ≡ eventWork f r work reports byte) × (p ≡ eventReports f r work reports byte)
+  Answers x w p = (x ≡ eventAnswer f r work reports byte) × ((w ≡ eventWork f r work reports byte) × (p ≡ eventReports f r work reports byte))
 
   pub event-refused : (w : Refusal) → firstOf (judgedLines f r work (length reports) (meaningOf byte)) Fine ≡ Refused w → Answers (refusedOf r w) work reports
   event-refused w h =
       let after = eventAfter f r work byte in
       let j = sym (judged-stands f r work (length reports) (meaningOf byte) after w h) in
-      (ap (λ x. answerOf x r after) j, ap (λ x. unless x work (after .work)) j, ap (λ x. unless x reports (onFront (after .reports) reports)) j)
+      (ap (λ x. answerOf x r after) j, (ap (λ x. unless x work (after .work)) j, ap (λ x. unless x reports (onFront (after .reports) reports)) j))
 
-  pub event-room : (e : Event) → meaningOf byte ≡ e → firstOf (judgedLines f r work (length reports) (meaningOf byte)) Fine ≡ Fine
-      → let after = taking (tableOf f) r work e in Answers (roomAnswer r after) (roomWork r work after) (roomReports r reports after)
-  event-room e m h =
+  -- Past 1 to 14: whatever answers by 15 for the byte's meaning answers the call.
+  pub event-by : (e : Event) → meaningOf byte ≡ e → firstOf (judgedLines f r work (length reports) (meaningOf byte)) Fine ≡ Fine → (x : Answer) (w p : List ℕ)
+      → let after = taking (tableOf f) r work e in (x ≡ roomAnswer r after) × ((w ≡ roomWork r work after) × (p ≡ roomReports r reports after)) → Answers x w p
+  event-by e m h x w p k =
       let after = eventAfter f r work byte in
       let j = sym (judged-passes f r work (length reports) (meaningOf byte) after h) in
       let n = sym m in (
-        ap (λ x. roomAnswer r (taking (tableOf f) r work x)) n ∙ ap (λ x. answerOf x r after) j,
-        ap (λ x. roomWork r work (taking (tableOf f) r work x)) n ∙ ap (λ x. unless x work (after .work)) j,
-        ap (λ x. roomReports r reports (taking (tableOf f) r work x)) n ∙ ap (λ x. unless x reports (onFront (after .reports) reports)) j,
+        k .0 ∙ ap (λ y. roomAnswer r (taking (tableOf f) r work y)) n ∙ ap (λ y. answerOf y r after) j,
+        (
+          k .1 .0 ∙ ap (λ y. roomWork r work (taking (tableOf f) r work y)) n ∙ ap (λ y. unless y work (after .work)) j,
+          k .1 .1 ∙ ap (λ y. roomReports r reports (taking (tableOf f) r work y)) n ∙ ap (λ y. unless y reports (onFront (after .reports) reports)) j,
+        ),
       )
 
 -- What an event that passed 9 to 14 needs to be taken.
-pub event-ready : (f : List ℕ) (r : Record) (s : Step) → EventPassed (labelsIn f) r (byteEvent s) → r .depth ≤ r .allowed
+can-take : (f : List ℕ) (r : Record) (s : Step) → EventPassed (labelsIn f) r (byteEvent s) → r .depth ≤ r .allowed
     → Can (tableOf f) (rowLength (r .allowed)) (r .depth) (eventOf s) × Counted (eventOf s) (r .positions)
-event-ready f r (step.Open a) p d = ((p .0, omega (arith, p .1)), p .2)
-event-ready f r (step.Point a) p d = (p .0, p .1)
-event-ready f r step.Close p d = (p, tt)
+can-take f r (step.Open a) p d = ((p .0, omega (arith, p .1)), p .2)
+can-take f r (step.Point a) p d = (p .0, p .1)
+can-take f r step.Close p d = (p, tt)
+
+module _ (f work : List ℕ) (r : Record) (reports : ℕ) (e m : Event) (is : e ≡ m) (h : firstOf (judgedLines f r work reports e) Fine ≡ Fine) where
+  pub passed-as : EventPassed (labelsIn f) r m
+  passed-as = subst (EventPassed (labelsIn f) r) is (event-passed f work r reports e h)
+
+  -- What `step` asks.
+  pub step-ready : (s : Step) → m ≡ byteEvent s → Sound f
+      × (Stands (statesIn f) (r .rows) (r .allowed) (r .depth) (r .alive) work × ((Can (tableOf f) (rowLength (r .allowed)) (r .depth) (eventOf s) × Counted (eventOf s) (r .positions)) × (r .rows < reports)))
+  step-ready s b =
+      let p = passed f work r reports e h in
+      (p .sound, (ready f work r reports p, (can-take f r s (subst (EventPassed (labelsIn f) r) b passed-as) (p .deep), p .enough)))
+
+  -- What `end` asks.
+  pub end-ready : m ≡ event.End → Sound f × (Stands (statesIn f) (r .rows) (r .allowed) (r .depth) (r .alive) work × ((r .depth ≡ 0) × (r .rows < reports)))
+  end-ready b =
+      let p = passed f work r reports e h in
+      (p .sound, (ready f work r reports p, (subst (EventPassed (labelsIn f) r) b passed-as, p .enough)))

@@ -94,7 +94,7 @@ fn is_left(row: &[u64], d: usize) -> bool
     requires { ⌜ RowIn 64 d (now row) ⌝ }
     ensures { λ r. ⌜ r ≡ not (isDecided (rowIn d (now (row .entry)))) ⌝ }
 {
-    !rows::is_selecting(row, d) && !rows::is_rejecting(row, d)
+    rows::is_neither(row, d, row[places::state_at(d)])
 }
 
 // The rows that are in doubt close up, and the words that they leave behind are 0. Answers how many they are.

@@ -4,13 +4,13 @@
 // table that can be stepped by (`Sound`); each leaves the words of the row that the rule names.
 ghost use mathlib.Core.Path.{_≡_};
 ghost use mathlib.Core.Bool.{not};
-ghost use Prim.Native.Nat.{ℕ, _+_, _<_, _≤_};
+ghost use Prim.Native.Nat.{_+_, _<_, _≤_};
 ghost use lib.ListN.{length, getD};
 ghost use Rattle.meaning.specs.Table.{tableOf};
 ghost use Rattle.meaning.specs.Masks.{downOf};
-ghost use Rattle.meaning.specs.Rows.{pointRow, openRow, closeRow, markRow, isSelecting, isRejecting};
+ghost use Rattle.meaning.specs.Rows.{pointRow, openRow, closeRow, markRow};
 ghost use Rattle.bodies.specs.Sound.{Sound};
-ghost use Rattle.places.specs.Places.{stateAt, rowLength};
+ghost use Rattle.places.specs.Places.{rowLength};
 ghost use Rattle.places.specs.Memory.{levelIn, rowIn, heldIn, rowWords, RowIn};
 ghost use Rattle.rows.specs.Steps.{eventOf, Can, stepRow, onRow, nextState, inRow, isDecided, neither};
 
@@ -103,7 +103,7 @@ pub fn next_state(row: &[u64], table: &[u8], step: Step, d: usize) -> u64
 }
 
 // Is state s in neither set of level d?
-fn is_neither(row: &[u64], d: usize, s: u64) -> bool
+pub fn is_neither(row: &[u64], d: usize, s: u64) -> bool
     requires { ⌜ (length (now row) ≤ rowLength 40) × (rowLength d ≤ length (now row)) × (s < 64) ⌝ }
     ensures { λ r. ⌜ r ≡ neither (levelIn (now (row .entry)) d .selecting) (levelIn (now (row .entry)) d .rejecting) s ⌝ }
 {
@@ -145,22 +145,4 @@ pub fn stays(row: &[u64], table: &[u8], accs: &[u64; 64], step: Step, d: usize, 
         Step::Point(_) => is_neither(row, d, s),
         Step::Close => is_neither(row, d - 1, s),
     }
-}
-
-// Is the newest state, that of level d, in its selecting set?
-pub fn is_selecting(row: &[u64], d: usize) -> bool
-    requires { ⌜ (length (now row) ≤ rowLength 40) × (rowLength d ≤ length (now row)) ⌝ }
-    requires { ⌜ getD (now row) (stateAt d) 0 < 64 ⌝ }
-    ensures { λ r. ⌜ r ≡ isSelecting (rowIn d (now (row .entry))) ⌝ }
-{
-    sets::holds(row[places::selecting_at(d)], row[places::state_at(d)])
-}
-
-// Is it in its rejecting set?
-pub fn is_rejecting(row: &[u64], d: usize) -> bool
-    requires { ⌜ (length (now row) ≤ rowLength 40) × (rowLength d ≤ length (now row)) ⌝ }
-    requires { ⌜ getD (now row) (stateAt d) 0 < 64 ⌝ }
-    ensures { λ r. ⌜ r ≡ isRejecting (rowIn d (now (row .entry))) ⌝ }
-{
-    sets::holds(row[places::rejecting_at(d)], row[places::state_at(d)])
 }

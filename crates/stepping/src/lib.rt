@@ -32,8 +32,12 @@ pub fn start_memory(work: &mut [u64], table: &[u8], accs: &[u64; 64], rows: usiz
     let n = bodies::states(table);
     words::clear(work);
     work[places::state_at(0)] = bodies::start(table);
-    work[places::selecting_at(0)] = sets::safe(n, accs, sets::ends(table, true));
-    work[places::rejecting_at(0)] = sets::safe(n, accs, sets::ends(table, false));
+    let finals = sets::ends(table, true);
+    let selecting = sets::safe(n, accs, finals);
+    work[places::selecting_at(0)] = selecting;
+    let others = sets::ends(table, false);
+    let rejecting = sets::safe(n, accs, others);
+    work[places::rejecting_at(0)] = rejecting;
 }
 
 // Would more positions be alive after the event than there are rows? Nothing is written.

@@ -1,10 +1,8 @@
 -- `event` meets its contract: refused by 1 to 14, or by what `step` and `end` answer.
-use mathlib.Core.Path.{_≡_, sym, ap, _∙_, subst}
+use mathlib.Core.Path.{_≡_, refl, sym, ap, _∙_}
 use borrow.Author.Needs.{needs}
 use lib.ListN.{length}
 use Rattle.meaning.specs.Refusals.{firstOf}
-use Rattle.bodies.specs.Sound.{labelsIn}
-use Rattle.rows.specs.declared.Step.{Step}
 use Rattle.rows.specs.declared.Step.the-variants as step
 use Rattle.answers.specs.declared.Event.{Event}
 use Rattle.answers.specs.declared.Event.the-variants as event
@@ -12,9 +10,7 @@ use Rattle.answers.specs.Bytes.{meaningOf}
 use Rattle.judge.specs.declared.Judged.{Judged}
 use Rattle.judge.specs.declared.Judged.the-variants.{Fine}
 use Rattle.judge.specs.Judging.{judgedLines}
-use Rattle.judge.proofs.Passed.{EventPassed, passed, event-passed}
-use Rattle.engine.proofs.Ready.{ready}
-use Rattle.engine.proofs.Taking.{event-refused, event-room, event-ready}
+use Rattle.engine.proofs.Taking.{event-refused, event-by, passed-as, step-ready, end-ready}
 use Rattle.engine.proofs.event.Statement.{statement}
 use Rattle.engine.proofs.event.Tie as tie
 
@@ -44,7 +40,7 @@ returns : tie.Need-returns
 returns c =
     let a = c .before .before .before .before .before .before .before .before .before .before .args in
     let g = event-refused (a .table .now) (a .«record») (a .work .now) (a .reports .now) (a .byte) _ (told (c .before .before .before .before) _ (c .before .before .judged .given .1)) in
-    (c .refused .ensures ∙ g .0, (g .1, g .2))
+    (c .refused .ensures ∙ g .0, g .1)
 
 enum-told : tie.Need-enum-told
 enum-told c = search needs
@@ -55,11 +51,7 @@ enum-known-event c = search needs
 step-requires : tie.Need-step-requires
 step-requires c κs =
     let a = c .before .before .before .before .before .before .before .before .before .before .before .before .before .args in
-    let h = told (c .before .before .before .before .before .before .before) Fine (c .before .before .before .before .before .enum-told .given .1) in
-    let m : meaningOf (a .byte) ≡ event.Open (c .before .before .before .event .given .0 .0) = sym (c .before .before .before .before .before .before .before .before .before .event-of .ensures) ∙ c .before .before .before .event .given .1 in
-    let p = passed (a .table .now) (a .work .now) (a .«record») (length (a .reports .now)) (meaningOf (a .byte)) h in
-    let q = subst (EventPassed (labelsIn (a .table .now)) (a .«record»)) m (event-passed (a .table .now) (a .work .now) (a .«record») (length (a .reports .now)) (meaningOf (a .byte)) h) in
-    (p .sound, (ready (a .table .now) (a .work .now) (a .«record») (length (a .reports .now)) p, (event-ready (a .table .now) (a .«record») (step.Open (c .before .before .before .event .given .0 .0)) q (p .deep), p .enough)))
+    step-ready (a .table .now) (a .work .now) (a .«record») (length (a .reports .now)) (meaningOf (a .byte)) (event.Open (c .before .before .before .event .given .0 .0)) (sym (c .before .before .before .before .before .before .before .before .before .event-of .ensures) ∙ c .before .before .before .event .given .1) (told (c .before .before .before .before .before .before .before) Fine (c .before .before .before .before .before .enum-told .given .1)) (step.Open (c .before .before .before .event .given .0 .0)) refl
 
 enum-known-event-2 : tie.Need-enum-known-event-2
 enum-known-event-2 c = search needs
@@ -67,11 +59,7 @@ enum-known-event-2 c = search needs
 step-requires-2 : tie.Need-step-requires-2
 step-requires-2 c κs =
     let a = c .before .before .before .before .before .before .before .before .before .before .before .before .before .args in
-    let h = told (c .before .before .before .before .before .before .before) Fine (c .before .before .before .before .before .enum-told .given .1) in
-    let m : meaningOf (a .byte) ≡ event.Point (c .before .before .before .event2 .given .0 .0) = sym (c .before .before .before .before .before .before .before .before .before .event-of .ensures) ∙ c .before .before .before .event2 .given .1 in
-    let p = passed (a .table .now) (a .work .now) (a .«record») (length (a .reports .now)) (meaningOf (a .byte)) h in
-    let q = subst (EventPassed (labelsIn (a .table .now)) (a .«record»)) m (event-passed (a .table .now) (a .work .now) (a .«record») (length (a .reports .now)) (meaningOf (a .byte)) h) in
-    (p .sound, (ready (a .table .now) (a .work .now) (a .«record») (length (a .reports .now)) p, (event-ready (a .table .now) (a .«record») (step.Point (c .before .before .before .event2 .given .0 .0)) q (p .deep), p .enough)))
+    step-ready (a .table .now) (a .work .now) (a .«record») (length (a .reports .now)) (meaningOf (a .byte)) (event.Point (c .before .before .before .event2 .given .0 .0)) (sym (c .before .before .before .before .before .before .before .before .before .event-of .ensures) ∙ c .before .before .before .event2 .given .1) (told (c .before .before .before .before .before .before .before) Fine (c .before .before .before .before .before .enum-told .given .1)) (step.Point (c .before .before .before .event2 .given .0 .0)) refl
 
 enum-told-2 : tie.Need-enum-told-2
 enum-told-2 c = search needs
@@ -79,11 +67,7 @@ enum-told-2 c = search needs
 step-requires-3 : tie.Need-step-requires-3
 step-requires-3 c κs =
     let a = c .before .before .before .before .before .before .before .before .before .before .before .before .args in
-    let h = told (c .before .before .before .before .before .before) Fine (c .before .before .before .before .enum-told .given .1) in
-    let m : meaningOf (a .byte) ≡ event.Close = sym (c .before .before .before .before .before .before .before .before .event-of .ensures) ∙ c .before .before .enum-told2 .given .1 in
-    let p = passed (a .table .now) (a .work .now) (a .«record») (length (a .reports .now)) (meaningOf (a .byte)) h in
-    let q = subst (EventPassed (labelsIn (a .table .now)) (a .«record»)) m (event-passed (a .table .now) (a .work .now) (a .«record») (length (a .reports .now)) (meaningOf (a .byte)) h) in
-    (p .sound, (ready (a .table .now) (a .work .now) (a .«record») (length (a .reports .now)) p, (event-ready (a .table .now) (a .«record») (step.Close) q (p .deep), p .enough)))
+    step-ready (a .table .now) (a .work .now) (a .«record») (length (a .reports .now)) (meaningOf (a .byte)) (event.Close) (sym (c .before .before .before .before .before .before .before .before .event-of .ensures) ∙ c .before .before .enum-told2 .given .1) (told (c .before .before .before .before .before .before) Fine (c .before .before .before .before .enum-told .given .1)) (step.Close) refl
 
 enum-told-3 : tie.Need-enum-told-3
 enum-told-3 c = search needs
@@ -91,11 +75,7 @@ enum-told-3 c = search needs
 end-requires : tie.Need-end-requires
 end-requires c κs =
     let a = c .before .before .before .before .before .before .before .before .before .before .before .before .args in
-    let h = told (c .before .before .before .before .before .before) Fine (c .before .before .before .before .enum-told .given .1) in
-    let m : meaningOf (a .byte) ≡ event.End = sym (c .before .before .before .before .before .before .before .before .event-of .ensures) ∙ c .before .before .enum-told3 .given .1 in
-    let p = passed (a .table .now) (a .work .now) (a .«record») (length (a .reports .now)) (meaningOf (a .byte)) h in
-    let q = subst (EventPassed (labelsIn (a .table .now)) (a .«record»)) m (event-passed (a .table .now) (a .work .now) (a .«record») (length (a .reports .now)) (meaningOf (a .byte)) h) in
-    (p .sound, (ready (a .table .now) (a .work .now) (a .«record») (length (a .reports .now)) p, (q, p .enough)))
+    end-ready (a .table .now) (a .work .now) (a .«record») (length (a .reports .now)) (meaningOf (a .byte)) event.End (sym (c .before .before .before .before .before .before .before .before .event-of .ensures) ∙ c .before .before .enum-told3 .given .1) (told (c .before .before .before .before .before .before) Fine (c .before .before .before .before .enum-told .given .1)) refl
 
 enum-told-4 : tie.Need-enum-told-4
 enum-told-4 c = search needs
@@ -112,11 +92,7 @@ same-length-3 c = search needs
 returns-2 : tie.Need-returns-2
 returns-2 c =
     let a = c .before .before .before .before .before .before .before .before .before .before .before .before .before .before .before .before .before .before .args in
-    let h = told (c .before .before .before .before .before .before .before .before .before .before .before .before) Fine (c .before .before .before .before .before .before .before .before .before .before .enum-told .given .1) in
-    let m : meaningOf (a .byte) ≡ event.Open (c .before .before .before .before .before .before .before .before .event .given .0 .0) = sym (c .before .before .before .before .before .before .before .before .before .before .before .before .before .before .event-of .ensures) ∙ c .before .before .before .before .before .before .before .before .event .given .1 in
-    let g = event-room (a .table .now) (a .«record») (a .work .now) (a .reports .now) (a .byte) (event.Open (c .before .before .before .before .before .before .before .before .event .given .0 .0)) m h in
-    let k = c .before .before .before .before .step .ensures in
-    (k .0 ∙ g .0, (k .1 .0 ∙ g .1, k .1 .1 ∙ g .2))
+    event-by (a .table .now) (a .«record») (a .work .now) (a .reports .now) (a .byte) (event.Open (c .before .before .before .before .before .before .before .before .event .given .0 .0)) (sym (c .before .before .before .before .before .before .before .before .before .before .before .before .before .before .event-of .ensures) ∙ c .before .before .before .before .before .before .before .before .event .given .1) (told (c .before .before .before .before .before .before .before .before .before .before .before .before) Fine (c .before .before .before .before .before .before .before .before .before .before .enum-told .given .1)) _ _ _ (c .before .before .before .before .step .ensures)
 
 same-length-4 : tie.Need-same-length-4
 same-length-4 c = search needs
@@ -127,11 +103,7 @@ same-length-5 c = search needs
 returns-3 : tie.Need-returns-3
 returns-3 c =
     let a = c .before .before .before .before .before .before .before .before .before .before .before .before .before .before .before .before .before .before .args in
-    let h = told (c .before .before .before .before .before .before .before .before .before .before .before .before) Fine (c .before .before .before .before .before .before .before .before .before .before .enum-told .given .1) in
-    let m : meaningOf (a .byte) ≡ event.Point (c .before .before .before .before .before .before .before .before .event2 .given .0 .0) = sym (c .before .before .before .before .before .before .before .before .before .before .before .before .before .before .event-of .ensures) ∙ c .before .before .before .before .before .before .before .before .event2 .given .1 in
-    let g = event-room (a .table .now) (a .«record») (a .work .now) (a .reports .now) (a .byte) (event.Point (c .before .before .before .before .before .before .before .before .event2 .given .0 .0)) m h in
-    let k = c .before .before .before .before .step2 .ensures in
-    (k .0 ∙ g .0, (k .1 .0 ∙ g .1, k .1 .1 ∙ g .2))
+    event-by (a .table .now) (a .«record») (a .work .now) (a .reports .now) (a .byte) (event.Point (c .before .before .before .before .before .before .before .before .event2 .given .0 .0)) (sym (c .before .before .before .before .before .before .before .before .before .before .before .before .before .before .event-of .ensures) ∙ c .before .before .before .before .before .before .before .before .event2 .given .1) (told (c .before .before .before .before .before .before .before .before .before .before .before .before) Fine (c .before .before .before .before .before .before .before .before .before .before .enum-told .given .1)) _ _ _ (c .before .before .before .before .step2 .ensures)
 
 same-length-6 : tie.Need-same-length-6
 same-length-6 c = search needs
@@ -142,11 +114,7 @@ same-length-7 c = search needs
 returns-4 : tie.Need-returns-4
 returns-4 c =
     let a = c .before .before .before .before .before .before .before .before .before .before .before .before .before .before .before .before .before .args in
-    let h = told (c .before .before .before .before .before .before .before .before .before .before .before) Fine (c .before .before .before .before .before .before .before .before .before .enum-told .given .1) in
-    let m : meaningOf (a .byte) ≡ event.Close = sym (c .before .before .before .before .before .before .before .before .before .before .before .before .before .event-of .ensures) ∙ c .before .before .before .before .before .before .before .enum-told2 .given .1 in
-    let g = event-room (a .table .now) (a .«record») (a .work .now) (a .reports .now) (a .byte) (event.Close) m h in
-    let k = c .before .before .before .before .step3 .ensures in
-    (k .0 ∙ g .0, (k .1 .0 ∙ g .1, k .1 .1 ∙ g .2))
+    event-by (a .table .now) (a .«record») (a .work .now) (a .reports .now) (a .byte) (event.Close) (sym (c .before .before .before .before .before .before .before .before .before .before .before .before .before .event-of .ensures) ∙ c .before .before .before .before .before .before .before .enum-told2 .given .1) (told (c .before .before .before .before .before .before .before .before .before .before .before) Fine (c .before .before .before .before .before .before .before .before .before .enum-told .given .1)) _ _ _ (c .before .before .before .before .step3 .ensures)
 
 same-length-8 : tie.Need-same-length-8
 same-length-8 c = search needs
@@ -157,11 +125,7 @@ same-length-9 c = search needs
 returns-5 : tie.Need-returns-5
 returns-5 c =
     let a = c .before .before .before .before .before .before .before .before .before .before .before .before .before .before .before .before .before .args in
-    let h = told (c .before .before .before .before .before .before .before .before .before .before .before) Fine (c .before .before .before .before .before .before .before .before .before .enum-told .given .1) in
-    let m : meaningOf (a .byte) ≡ event.End = sym (c .before .before .before .before .before .before .before .before .before .before .before .before .before .event-of .ensures) ∙ c .before .before .before .before .before .before .before .enum-told3 .given .1 in
-    let g = event-room (a .table .now) (a .«record») (a .work .now) (a .reports .now) (a .byte) (event.End) m h in
-    let k = c .before .before .before .before .end .ensures in
-    (k .0 ∙ g .0, (k .1 .0 ∙ g .1, k .1 .1 ∙ g .2))
+    event-by (a .table .now) (a .«record») (a .work .now) (a .reports .now) (a .byte) (event.End) (sym (c .before .before .before .before .before .before .before .before .before .before .before .before .before .event-of .ensures) ∙ c .before .before .before .before .before .before .before .enum-told3 .given .1) (told (c .before .before .before .before .before .before .before .before .before .before .before) Fine (c .before .before .before .before .before .before .before .before .before .enum-told .given .1)) _ _ _ (c .before .before .before .before .end .ensures)
 
 same-length-10 : tie.Need-same-length-10
 same-length-10 c = search needs
@@ -169,9 +133,7 @@ same-length-10 c = search needs
 returns-6 : tie.Need-returns-6
 returns-6 c =
     let a = c .before .before .before .before .before .before .before .before .before .before .before .args in
-    let h = told (c .before .before .before .before .before) Fine (c .before .before .before .enum-told .given .1) in
-    let m : meaningOf (a .byte) ≡ event.Unknown = sym (c .before .before .before .before .before .before .before .event-of .ensures) ∙ c .before .enum-told4 .given .1 in
-    absurd (subst (EventPassed (labelsIn (a .table .now)) (a .«record»)) m (event-passed (a .table .now) (a .work .now) (a .«record») (length (a .reports .now)) (meaningOf (a .byte)) h))
+    absurd (passed-as (a .table .now) (a .work .now) (a .«record») (length (a .reports .now)) (meaningOf (a .byte)) event.Unknown (sym (c .before .before .before .before .before .before .before .event-of .ensures) ∙ c .before .enum-told4 .given .1) (told (c .before .before .before .before .before) Fine (c .before .before .before .enum-told .given .1)))
 
 pub event-spec : {M : Type 1} → statement M
 event-spec =

@@ -1,24 +1,32 @@
--- `is_left` meets its contract. Assumes nothing.
+-- `is_left` meets its contract, by that of `is_neither`.
 use native.Mathlib.Omega.{arith}
-use Rattle.rows.proofs.Laws.{neither-both, neither-first}
+use borrow.Author.Needs.{needs}
 use Rattle.memory.proofs.is_left.Statement.{statement}
 use Rattle.memory.proofs.is_left.Tie as tie
 
-is-selecting-requires : tie.Need-is-selecting-requires
-is-selecting-requires c κs =
-    let s = c .before in
-    ((s .pre .short, s .pre .deep), s .pre .states (s .args .d) (omega arith))
+state-at-requires : tie.Need-state-at-requires
+state-at-requires c κs = search needs
 
-is-rejecting-requires : tie.Need-is-rejecting-requires
-is-rejecting-requires c κs =
+mul-is-neither : tie.Need-mul-is-neither
+mul-is-neither c = search needs
+
+shared-slice-read-is-neither : tie.Need-shared-slice-read-is-neither
+shared-slice-read-is-neither c = search needs
+
+is-neither-requires : tie.Need-is-neither-requires
+is-neither-requires c κs =
     let s = c .before .before .before in
-    ((s .pre .short, s .pre .deep), s .pre .states (s .args .d) (omega arith))
+    (s .pre .short, s .pre .deep, rw (c .before .state-at .ensures) (s .pre .states (s .args .d) (omega arith)))
 
 returns : tie.Need-returns
-returns c = neither-both (c .before .before .is-selecting .ensures) (c .is-rejecting .ensures) (c .before .if1 .taken)
-
-returns-2 : tie.Need-returns-2
-returns-2 c = neither-first (c .before .is-selecting .ensures) _ (c .if1 .left)
+returns c = rw (c .before .before .state-at .ensures) at (c .is-neither .ensures)
 
 pub is-left-spec : {M : Type 1} → statement M
-is-left-spec = tie.close (tie.spec is-selecting-requires is-rejecting-requires returns returns-2)
+is-left-spec =
+    tie.close
+    (tie.spec
+    state-at-requires
+    mul-is-neither
+    shared-slice-read-is-neither
+    is-neither-requires
+    returns)
