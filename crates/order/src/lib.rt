@@ -4,7 +4,7 @@
 ghost use mathlib.Core.Path.{_≡_};
 ghost use Prim.Native.Nat.{ℕ, _+_, _*_, _<_, _≤_};
 ghost use lib.ListN.{length};
-ghost use Rattle.places.specs.Places.{rowLength, rowAt, stateAt};
+ghost use Rattle.places.specs.Places.{levelLength, rowLength, rowAt, stateAt};
 ghost use Rattle.order.specs.Order.{cellRight, wordRight, firstFrom, firstFault};
 
 // What the words are judged by.
@@ -51,7 +51,7 @@ fn cell_right(words: &[u64], s: Shape, r: usize, c: usize) -> bool
 // The first word out of order among those of level l in row r.
 fn level_fault(words: &[u64], s: Shape, r: usize, l: usize) -> Place
     requires { ⌜ (s .allowed ≤ 40) × (s .rows ≤ 65) × (r < s .rows) × (l ≤ s .allowed) × (rowAt (s .allowed) (s .rows) ≡ length (now words)) ⌝ }
-    ensures { λ p. ⌜ p ≡ firstFrom (wordRight s (now (words .entry))) (rowAt (s .allowed) r + stateAt l) 3 ⌝ }
+    ensures { λ p. ⌜ p ≡ firstFrom (wordRight s (now (words .entry))) (rowAt (s .allowed) r + stateAt l) levelLength ⌝ }
 {
     let from = r * places::row_length(s.allowed);
     let at = places::state_at(l);

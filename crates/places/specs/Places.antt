@@ -5,12 +5,19 @@ use mathlib.Core.List.{List, [], _∷_, _++_}
 use Prim.Native.Nat.{ℕ, _+_, _-_, _*_, _/_, _%_}
 use lib.ListN.{length, take, drop, replicate}
 
--- Where a row's position stands in it, and the three words of a level.
+-- Where a row's position stands in it, where its levels begin, and how many words a level has.
 abbrev pub positionAt : ℕ
 positionAt = 0
 
+abbrev pub levelsAt : ℕ
+levelsAt = 1
+
+abbrev pub levelLength : ℕ
+levelLength = 3
+
+-- Where the three words of a level stand.
 abbrev pub stateAt : ℕ → ℕ
-stateAt l = 1 + 3 * l
+stateAt l = levelsAt + levelLength * l
 
 abbrev pub selectingAt : ℕ → ℕ
 selectingAt l = stateAt l + 1
@@ -21,10 +28,10 @@ rejectingAt l = stateAt l + 2
 -- The level that the word at c of a row belongs to, the position apart, and which of its three words that is: 0 its
 -- state.
 abbrev pub levelOf : ℕ → ℕ
-levelOf c = (c - 1) / 3
+levelOf c = (c - levelsAt) / levelLength
 
 abbrev pub partOf : ℕ → ℕ
-partOf c = (c - 1) % 3
+partOf c = (c - levelsAt) % levelLength
 
 -- How many words a row has.
 abbrev pub rowLength : ℕ → ℕ

@@ -5,15 +5,19 @@ ghost use mathlib.Core.Path.{_≡_};
 ghost use Prim.Native.Nat.{_<_, _≤_};
 ghost use Rattle.places.specs.Places.{stateAt, selectingAt, rejectingAt, levelOf, partOf, rowLength, workLength};
 
-// Where its position stands in a row.
+// Where its position stands in a row, where its levels begin, and how many words a level has.
 pub const POSITION: usize = 0;
+
+const LEVELS: usize = 1;
+
+const LEVEL_LENGTH: usize = 3;
 
 // Where the state of a level stands in its row.
 pub fn state_at(level: usize) -> usize
     requires { ⌜ level ≤ 41 ⌝ }
     ensures { λ r. ⌜ r ≡ stateAt level ⌝ }
 {
-    1 + 3 * level
+    LEVELS + LEVEL_LENGTH * level
 }
 
 // Where the selecting set of a level stands in its row.
@@ -37,7 +41,7 @@ pub fn level_of(c: usize) -> usize
     requires { ⌜ 0 < c ⌝ }
     ensures { λ r. ⌜ r ≡ levelOf c ⌝ }
 {
-    (c - 1) / 3
+    (c - LEVELS) / LEVEL_LENGTH
 }
 
 // Which word of its level that is: 0 the state.
@@ -45,7 +49,7 @@ pub fn part_of(c: usize) -> usize
     requires { ⌜ 0 < c ⌝ }
     ensures { λ r. ⌜ r ≡ partOf c ⌝ }
 {
-    (c - 1) % 3
+    (c - LEVELS) % LEVEL_LENGTH
 }
 
 // How many words a row has.

@@ -40,19 +40,29 @@ words-back rows depth k m words e l =
 pub start-room : (rows depth : ℕ) → rowLength depth ≤ workLength rows depth
 start-room rows depth = omega (arith, suc-mul rows (rowLength depth), add-one rows)
 
+-- Three words written into zeros, behind one.
+three-words : (k j q x y : ℕ) → set (set (set (replicate (suc (suc (suc (suc (k + j))))) 0) 1 q) 2 x) 3 y
+    ≡ (0 ∷ q ∷ x ∷ y ∷ replicate k 0) ++ [] ++ replicate j 0
+three-words k j q x y =
+    ap (λ zs. 0 ∷ q ∷ x ∷ y ∷ zs) (sym (replicate-append-replicate k j 0))
+    ∙ ap (λ zs. zs ++ replicate j 0) (sym (append-nil (0 ∷ q ∷ x ∷ y ∷ replicate k 0)))
+
+row-size : (k w q x y : ℕ) → w ≡ k + 4 → length ((0 ∷ q ∷ x ∷ y ∷ replicate k 0) ++ []) ≡ w
+row-size k w q x y e = ap length (append-nil (0 ∷ q ∷ x ∷ y ∷ replicate k 0)) ∙ omega (arith, length-replicate {A = ℕ} k 0, e)
+
 -- The words of a watch that has read nothing, written into zeros.
 pub start-words : (rows depth q x y : ℕ) → set (set (set (replicate (workLength rows depth) 0) (stateAt 0) q) (selectingAt 0) x) (rejectingAt 0) y
     ≡ workWords rows depth (record { run = record { newest = record { state = q; selecting = x; rejecting = y }; below = [] }; alive = [] })
-start-words rows depth q x y =
-    let k : ℕ = rowLength depth - 4 in
-    let j : ℕ = workLength rows depth - rowLength depth in
-    let e : workLength rows depth ≡ suc (suc (suc (suc (k + j)))) = omega (arith, start-room rows depth) in
-    let xs : List ℕ = (0 ∷ q ∷ x ∷ y ∷ replicate k 0) ++ [] in
-    let l : length xs ≡ rowLength depth = ap length (append-nil (0 ∷ q ∷ x ∷ y ∷ replicate k 0)) ∙ omega (arith, length-replicate {A = ℕ} k 0) in
-    ap (λ i. set (set (set (replicate i 0) (stateAt 0) q) (selectingAt 0) x) (rejectingAt 0) y) e
-    ∙ ap (λ zs. 0 ∷ q ∷ x ∷ y ∷ zs) (sym (replicate-append-replicate k j 0))
-    ∙ ap (λ zs. zs ++ replicate j 0) (sym (append-nil (0 ∷ q ∷ x ∷ y ∷ replicate k 0)))
-    ∙ ap (λ i. xs ++ replicate i 0) (ap (λ i. workLength rows depth - i) (sym l))
+start-words rows depth q x y = go (rowLength depth - 4) (workLength rows depth - rowLength depth) (omega (arith, start-room rows depth)) (omega arith) refl
+  where
+    go : (k j : ℕ) → workLength rows depth ≡ suc (suc (suc (suc (k + j)))) → rowLength depth ≡ k + 4 → j ≡ workLength rows depth - rowLength depth
+        → set (set (set (replicate (workLength rows depth) 0) 1 q) 2 x) 3 y ≡ (0 ∷ q ∷ x ∷ y ∷ replicate (rowLength depth - 4) 0) ++ [] ++ replicate (workLength rows depth - length ((0 ∷ q ∷ x ∷ y ∷ replicate (rowLength depth - 4) 0) ++ [])) 0
+    go k j e f g =
+        let h : k ≡ rowLength depth - 4 = omega (arith, f) in
+        ap (λ i. set (set (set (replicate i 0) 1 q) 2 x) 3 y) e
+        ∙ three-words k j q x y
+        ∙ ap (λ i. (0 ∷ q ∷ x ∷ y ∷ replicate k 0) ++ [] ++ replicate i 0) (g ∙ ap (λ i. workLength rows depth - i) (sym (row-size k (rowLength depth) q x y f)))
+        ∙ ap (λ i. (0 ∷ q ∷ x ∷ y ∷ replicate i 0) ++ [] ++ replicate (workLength rows depth - length ((0 ∷ q ∷ x ∷ y ∷ replicate i 0) ++ [])) 0) h
 
 -- The words from a place on, as they are lent.
 pub rest-part : (words : List ℕ) (k : ℕ) → take (length words - k) (drop k words) ≡ drop k words
