@@ -3,13 +3,12 @@ use mathlib.Core.Path.{_≡_, sym, ap, _∙_}
 use mathlib.Core.Bool.{Bool, cond}
 use mathlib.Core.List.{List}
 use Prim.Native.Nat.{ℕ, suc, _+_, _*_, _<_, _≤_}
-use native.Mathlib.Nat.{suc-mul, add-zero}
-use native.Mathlib.Numerals.{add-one}
+use native.Mathlib.Nat.{suc-mul}
 use native.Mathlib.Omega.{arith}
 use lib.ListN.{getD, drop}
 use lib.Seq.{getD-take, getD-drop}
 use Rattle.bodies.specs.Sound.{statesIn}
-use Rattle.places.specs.Places.{positionAt, rowLength, rowAt, rowOf}
+use Rattle.places.specs.Places.{positionAt, rowLength, rowOf}
 use Rattle.order.specs.declared.Shape.{Shape}
 use Rattle.order.proofs.InOrder.{rows-in, rest-zero, run-position, positions-in}
 use Rattle.order.specs.Order.{firstFault}

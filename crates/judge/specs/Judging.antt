@@ -1,11 +1,10 @@
 -- Refusals 1 to 14 of 01, line by line: each line is a test on what the call was given. Definitions only.
 use mathlib.Core.Bool.{Bool, true, false, not, cond, _&&_, _||_}
 use mathlib.Core.List.{List, [], _∷_, _++_}
-use mathlib.Core.Path.{_≡_}
 use Prim.Native.Nat.{ℕ, _+_}
 use lib.Dec.{eqb, leb, ltb}
 use lib.ListN.{length}
-use Rattle.meaning.specs.Refusals.{Line, firstOf}
+use Rattle.meaning.specs.Refusals.{Line}
 use Rattle.bodies.specs.Sound.{statesIn, labelsIn}
 use Rattle.table.specs.File.{between, isShort, headerRight, contentsRight, lengthRight, bodiesRight}
 use Rattle.table.specs.declared.Refusal.the-variants as file

@@ -9,9 +9,9 @@ use native.Mathlib.Omega.{arith}
 use native.Mathlib.Decide.{ℕ-discrete}
 use lib.ListN.{length, getD, take, drop, replicate, length-append, length-drop, take-append-drop}
 use lib.Seq.{getD-at, take-at, drop-at, drop-drop, take-add}
-use Rattle.meaning.specs.Rows.{Level, Row}
-use Rattle.places.specs.Places.{stateAt, selectingAt, rejectingAt, rowLength, rowOf}
-use Rattle.places.specs.Memory.{Held, levelsWords, rowWords, each, allWords, levelIn, belowIn, rowIn, heldIn, heldsIn, RowIn, RowsIn}
+use Rattle.meaning.specs.Rows.{Level}
+use Rattle.places.specs.Places.{stateAt, rowLength, rowOf}
+use Rattle.places.specs.Memory.{Held, levelsWords, rowWords, each, allWords, levelIn, belowIn, heldIn, heldsIn, RowIn, RowsIn}
 use Rattle.places.proofs.Words.{levels-length, front, front-length, row-split, row-length}
 use Rattle.places.proofs.Sets.{below-length}
 use Rattle.places.proofs.Rows.{each-next, part-length}

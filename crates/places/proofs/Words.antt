@@ -1,10 +1,10 @@
 -- The words of a row: how many, and which is where. Assumes nothing.
-use mathlib.Core.Path.{_≡_, refl, sym, ap, _∙_}
+use mathlib.Core.Path.{_≡_, refl}
 use mathlib.Core.List.{List, [], _∷_, _++_, append-assoc}
-use Prim.Native.Nat.{ℕ, zero, suc, _+_, _-_, _*_, _<_, _≤_}
+use Prim.Native.Nat.{ℕ, suc, _+_, _-_, _*_, _≤_}
 use native.Mathlib.Omega.{arith}
 use lib.ListN.{length, replicate, length-append, length-replicate}
-use Rattle.meaning.specs.Rows.{Level, Row}
+use Rattle.meaning.specs.Rows.{Level}
 use Rattle.places.specs.Places.{stateAt, rowLength, padded}
 use Rattle.places.specs.Memory.{Held, levelsWords, rowWords}
 

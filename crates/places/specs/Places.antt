@@ -1,7 +1,7 @@
 -- Where a word stands in work memory (01, "Record and work memory"). Definitions only.
 -- Rows and levels are counted from 0. No other file knows the layout: a row is its position, then for each level its
 -- state, selecting set and rejecting set.
-use mathlib.Core.List.{List, [], _∷_, _++_}
+use mathlib.Core.List.{List, _++_}
 use Prim.Native.Nat.{ℕ, _+_, _-_, _*_, _/_, _%_}
 use lib.ListN.{length, take, drop, replicate}
 

@@ -1,6 +1,6 @@
 -- Steps lead from good rows to good rows; and how many rows an event leaves. Assumes a well-formed table.
-use mathlib.Core.Path.{_≡_, refl, sym, ap, _∙_}
-use mathlib.Core.Bool.{Bool, true, false, not, cond}
+use mathlib.Core.Path.{_≡_, refl, ap, _∙_}
+use mathlib.Core.Bool.{Bool, true, false, cond}
 use mathlib.Core.List.{List, [], _∷_, _++_, map, append-nil}
 use Prim.Native.Nat.{ℕ, suc, _+_, _-_, _<_, _≤_}
 use native.Mathlib.Omega.{arith}
@@ -10,7 +10,7 @@ use denote.Enum.Declared.{tagOf}
 use Rattle.rows.proofs.Step.{the-type}
 use Rattle.meaning.specs.Table.{Table, WellFormed}
 use Rattle.meaning.specs.Streams.{Event, Open, Point, Close}
-use Rattle.meaning.specs.Rows.{Level, Row, markRow, closeLevels}
+use Rattle.meaning.specs.Rows.{Level, Row, closeLevels}
 use Rattle.places.specs.Places.{rowLength}
 use Rattle.places.specs.Memory.{Held, each}
 use Rattle.places.proofs.Rows.{each-append}

@@ -3,22 +3,21 @@
 use mathlib.Core.Path.{_≡_, refl, sym, ap, _∙_, subst}
 use mathlib.Core.List.{List, [], _∷_, _++_, map, append-assoc, append-nil}
 use Prim.Native.Nat.{ℕ, zero, suc, _+_, _-_, _*_, _<_, _≤_}
-use native.Mathlib.Nat.{suc-mul}
 use native.Mathlib.Numerals.{add-one}
 use native.Mathlib.Omega.{arith}
-use lib.ListN.{length, getD, take, drop, replicate, length-append, length-drop, length-replicate, replicate-append-replicate, drop-of-length-le}
-use lib.Seq.{take-at, drop-at, drop-drop, drop-append-add, take-append-seam}
+use lib.ListN.{length, getD, take, drop, replicate, length-drop, replicate-append-replicate, drop-of-length-le}
+use lib.Seq.{take-at, drop-at, drop-drop}
 use Rattle.meaning.specs.Table.{Table, WellFormed}
 use Rattle.meaning.specs.Streams.{Event, Open, Point, Close}
 use Rattle.places.specs.Places.{positionAt, rowLength, rowAt, workLength, rowOf, padded}
-use Rattle.places.specs.Memory.{Held, Memory, rowWords, each, allWords, rowsOf, rowIn, heldIn, heldsIn, memoryIn, workWords, RowIn, RowsIn}
+use Rattle.places.specs.Memory.{Held, rowWords, each, allWords, rowIn, heldsIn, memoryIn, workWords, RowIn, RowsIn}
 use Rattle.places.proofs.Good.{Good, AllGood, first-row, later-rows, rows-of, helds-back, all-length, next-row-of, helds-length, held-back}
 use Rattle.places.proofs.Good as good
 use Rattle.places.proofs.Rows.{each-append}
 use Rattle.rows.specs.Steps.{Can, stepRow, onRow, depthAfter}
-use Rattle.reports.specs.Reports.{leftOver, leftOf, putAt}
-use Rattle.stepping.specs.Stepping.{Stands, stepMemory, leftMemory, newOf}
-use Rattle.stepping.proofs.Kept.{step-good, all-step, new-good, left-few, left-good, map-length}
+use Rattle.reports.specs.Reports.{leftOf, putAt}
+use Rattle.stepping.specs.Stepping.{Stands}
+use Rattle.stepping.proofs.Kept.{all-step, left-good, map-length}
 use Rattle.stepping.proofs.Whole.{rows-are, state-good, words-back}
 
 -- States below n are below 64.

@@ -1,15 +1,15 @@
 -- A work memory as rows and then zeros, and back. Assumes words that are a work memory (`Stands`).
 use mathlib.Core.Path.{_≡_, refl, sym, ap, _∙_, subst}
 use mathlib.Core.List.{List, [], _∷_, _++_, append-nil}
-use Prim.Native.Nat.{ℕ, suc, _+_, _-_, _*_, _<_, _≤_}
+use Prim.Native.Nat.{ℕ, suc, _+_, _-_, _≤_}
 use native.Mathlib.Nat.{suc-mul, zero-mul}
 use native.Mathlib.Numerals.{add-one}
 use native.Mathlib.Omega.{arith}
 use lib.ListN.{length, getD, set, take, drop, replicate, length-append, length-drop, length-replicate, replicate-append-replicate}
 use lib.Seq.{getD-take, take-all}
 use Rattle.places.specs.Places.{positionAt, stateAt, selectingAt, rejectingAt, rowLength, rowAt, workLength, rowOf}
-use Rattle.places.specs.Memory.{Held, Memory, rowIn, heldIn, heldsIn, memoryIn, allWords, rowsOf, workWords, RowsIn}
-use Rattle.places.proofs.Good.{AllGood, helds-first, words-are, helds-good, helds-length}
+use Rattle.places.specs.Memory.{Memory, rowIn, heldsIn, memoryIn, allWords, rowsOf, workWords}
+use Rattle.places.proofs.Good.{AllGood, helds-first, words-are, helds-good}
 use Rattle.stepping.specs.Stepping.{Stands}
 
 module _ (n rows depth d alive : ℕ) (words : List ℕ) (s : Stands n rows depth d alive words) where

@@ -1,5 +1,4 @@
 -- `event_of` meets its contract.
-use native.Mathlib.Omega.{arith}
 use borrow.Author.Needs.{needs}
 use borrow.Author.Tests.{le-ltb, lt-ltb, ne-eqb}
 use Rattle.answers.proofs.event_of.Statement.{statement}

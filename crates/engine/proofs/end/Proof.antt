@@ -1,9 +1,6 @@
 -- `end` meets its contract.
-use mathlib.Core.Path.{_≡_, sym, ap, ap₂, _∙_, subst}
-use mathlib.Core.Bool.{false}
-use Prim.Native.Nat.{ℕ, _<_, _≤_}
-use native.Mathlib.Nat.{suc-mul}
-use native.Mathlib.Numerals.{add-one}
+use mathlib.Core.Path.{sym, ap, ap₂, _∙_, subst}
+use Prim.Native.Nat.{ℕ}
 use native.Mathlib.Omega.{arith}
 use borrow.Author.Needs.{needs}
 use borrow.Author.Tests.{le-ltb}
@@ -14,7 +11,6 @@ use Rattle.places.specs.Memory.{memoryIn, RowsIn}
 use Rattle.places.proofs.Good.{rows-later, helds-length}
 use Rattle.reports.specs.Reports.{endReports, onFront}
 use Rattle.stepping.proofs.Whole.{start-room}
-use Rattle.answers.specs.Record.{finishedOf}
 use Rattle.answers.specs.Answers.{takenOf}
 use Rattle.engine.specs.Calls.{memoryOf, ended}
 use Rattle.engine.proofs.Taking.{ends-length, room-taken}

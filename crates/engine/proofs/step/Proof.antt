@@ -1,22 +1,19 @@
 -- `step` meets its contract: 15 is settled by counting, and then the event is taken.
 use mathlib.Core.Path.{_≡_, sym, ap, ap₂, _∙_}
 use mathlib.Core.Bool.{Bool, true, false}
-use Prim.Native.Nat.{_≤_}
-use native.Mathlib.Omega.{arith}
 use borrow.Author.Needs.{needs}
 use borrow.Author.Tests.{ltb-false}
 use lib.Dec.{ltb}
 use lib.ListN.{length}
 use Rattle.meaning.specs.Table.{tableOf}
-use Rattle.meaning.specs.Masks.{accsOf}
 use Rattle.places.specs.Memory.{Memory, workWords}
 use Rattle.rows.specs.Steps.{eventOf}
 use Rattle.reports.specs.Reports.{leftOf, reportsOf, onFront}
-use Rattle.stepping.specs.Stepping.{stepMemory, leftMemory, countsOf}
+use Rattle.stepping.specs.Stepping.{leftMemory, countsOf}
 use Rattle.stepping.proofs.Kept.{moves-of}
 use Rattle.answers.specs.Record.{withAlive}
 use Rattle.answers.specs.Answers.{takenOf}
-use Rattle.engine.specs.Calls.{memoryOf, stepRecord, stepped}
+use Rattle.engine.specs.Calls.{memoryOf, stepped}
 use Rattle.engine.proofs.Taking.{step-same, room-refused, room-taken}
 use Rattle.engine.proofs.step.Statement.{statement}
 use Rattle.engine.proofs.step.Tie as tie

@@ -16,7 +16,7 @@ shared-slice-read-is-neither c = search needs
 is-neither-requires : tie.Need-is-neither-requires
 is-neither-requires c κs =
     let s = c .before .before .before in
-    (s .pre .short, s .pre .deep, rw (c .before .state-at .ensures) (s .pre .states (s .args .d) (omega arith)))
+    (s .pre .short, omega (arith, s .pre .deep), rw (c .before .state-at .ensures) (s .pre .states (s .args .d) (omega arith)))
 
 returns : tie.Need-returns
 returns c = rw (c .before .before .state-at .ensures) at (c .is-neither .ensures)

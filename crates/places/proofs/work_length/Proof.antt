@@ -6,9 +6,6 @@ use native.Mathlib.Omega.{arith}
 use native.Mathlib.Nat.{mul-le-mul-right}
 use Rattle.places.proofs.work_length.Statement.{statement}
 use Rattle.places.proofs.work_length.Tie as tie
-use Rattle.places.proofs.work_length.Reads as reads
-use Rattle.places.proofs.work_length.Lts as lts
-use Rattle.places.proofs.row_length.Reads as row-length-reads
 
 -- src/lib.rt:45:6
 add-result : tie.Need-add-result

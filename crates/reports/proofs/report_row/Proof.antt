@@ -1,5 +1,4 @@
 -- `report_row` meets its contract, by that of `report_state`.
-use mathlib.Core.Path.{_≡_}
 use borrow.Author.Needs.{needs}
 use Prim.Native.Nat.{_<_}
 use native.Mathlib.Omega.{arith}

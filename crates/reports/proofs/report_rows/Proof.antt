@@ -1,13 +1,11 @@
 -- `report_rows` meets its contract. The invariant: the rows passed are reported.
-use mathlib.Core.Path.{_≡_, refl, sym, ap, _∙_}
-use mathlib.Core.List.{List}
-use Prim.Native.Nat.{ℕ, _+_, _-_, _*_, _<_, _≤_}
+use mathlib.Core.Path.{_≡_}
+use Prim.Native.Nat.{_+_, _-_, _*_, _≤_}
 use native.Mathlib.Nat.{add-sub-cancel-left}
 use native.Mathlib.Omega.{arith}
 use lib.ListN.{length}
-use Rattle.places.specs.Memory.{heldsIn}
 use Rattle.places.proofs.Rows.{row-fits}
-use Rattle.reports.specs.Reports.{reportOf, reportsOf, onFront}
+use Rattle.reports.specs.Reports.{reportOf}
 use Rattle.reports.proofs.Puts.{Reported, reported-none, reported-more, report-few}
 use Rattle.reports.proofs.report_rows.Statement.{statement}
 use Rattle.reports.proofs.report_rows.Tie as tie

@@ -1,12 +1,8 @@
 -- `start_memory` meets its contract.
-use mathlib.Core.Path.{_≡_, sym, ap, _∙_}
-use Prim.Native.Nat.{ℕ, _*_, _<_, _≤_}
-use native.Mathlib.Nat.{suc-mul}
-use native.Mathlib.Numerals.{add-one}
+use mathlib.Core.Path.{ap, _∙_}
 use native.Mathlib.Omega.{arith}
 use borrow.Author.Needs.{needs}
-use lib.ListN.{length, set, length-set, replicate}
-use Rattle.places.specs.Places.{stateAt, selectingAt, rejectingAt, rowLength, workLength}
+use lib.ListN.{length-set, replicate}
 use Rattle.stepping.proofs.Whole.{start-words, start-room}
 use Rattle.stepping.proofs.start_memory.Statement.{statement}
 use Rattle.stepping.proofs.start_memory.Tie as tie
@@ -44,8 +40,7 @@ mul-work-2 c = search needs
 slice-write-work-2 : tie.Need-slice-write-work-2
 slice-write-work-2 c =
     let s = c .before .before .before .before .before .before .before .before .before .before .before .before in
-    rw (length-set (c .before .before .before .before .before .before .before .clear .last .0) (c .before .before .before .state-at .result) (c .before .before .before .before .start .result))
-    (omega (arith, c .selecting-at .ensures, c .before .before .before .before .before .before .before .clear .kept .0, s .pre .1 .0 .2, start-room (s .args .rows) (s .args .depth)))
+    simp length-set (omega (arith, c .selecting-at .ensures, c .before .before .before .before .before .before .before .clear .kept .0, s .pre .1 .0 .2, start-room (s .args .rows) (s .args .depth)))
 
 ends-requires-2 : tie.Need-ends-requires-2
 ends-requires-2 c κs = search needs
@@ -62,8 +57,7 @@ mul-work-3 c = search needs
 slice-write-work-3 : tie.Need-slice-write-work-3
 slice-write-work-3 c =
     let s = c .before .before .before .before .before .before .before .before .before .before .before .before .before .before .before in
-    rw (length-set (set (c .before .before .before .before .before .before .before .before .before .before .clear .last .0) (c .before .before .before .before .before .before .state-at .result) (c .before .before .before .before .before .before .before .start .result)) (c .before .before .before .selecting-at .result) (c .before .before .before .before .safe .result), length-set (c .before .before .before .before .before .before .before .before .before .before .clear .last .0) (c .before .before .before .before .before .before .state-at .result) (c .before .before .before .before .before .before .before .start .result))
-    (omega (arith, c .rejecting-at .ensures, c .before .before .before .before .before .before .before .before .before .before .clear .kept .0, s .pre .1 .0 .2, start-room (s .args .rows) (s .args .depth)))
+    simp length-set (omega (arith, c .rejecting-at .ensures, c .before .before .before .before .before .before .before .before .before .before .clear .kept .0, s .pre .1 .0 .2, start-room (s .args .rows) (s .args .depth)))
 
 same-length : tie.Need-same-length
 same-length c = search needs

@@ -1,12 +1,6 @@
 -- `take_end` meets its contract.
-use mathlib.Core.Path.{_≡_, sym, ap, _∙_}
-use Prim.Native.Nat.{ℕ, _-_, _<_, _≤_}
-use native.Mathlib.Omega.{arith}
+use Prim.Native.Nat.{_-_}
 use borrow.Author.Needs.{needs}
-use lib.ListN.{length, getD, drop, replicate}
-use Rattle.meaning.specs.Table.{tableOf}
-use Rattle.places.specs.Memory.{heldsIn}
-use Rattle.reports.specs.Reports.{endReports, onFront}
 use Rattle.stepping.proofs.Whole.{rest-part}
 use Rattle.stepping.proofs.take_end.Statement.{statement}
 use Rattle.stepping.proofs.take_end.Tie as tie

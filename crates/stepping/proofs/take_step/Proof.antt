@@ -1,21 +1,20 @@
 -- `take_step` meets its contract: the laws of Taken, one after the other.
-use mathlib.Core.Path.{_≡_, refl, sym, ap, ap₂, _∙_, subst}
-use mathlib.Core.List.{List, [], _∷_, _++_, map, append-nil}
+use mathlib.Core.Path.{_≡_, sym, ap, ap₂, _∙_, subst}
+use mathlib.Core.List.{List, [], _∷_, _++_, map}
 use Prim.Native.Nat.{ℕ, _+_, _-_, _*_, _<_, _≤_}
 use native.Mathlib.Nat.{mul-le-mul-right}
 use native.Mathlib.Omega.{arith}
 use borrow.Author.Needs.{needs}
 use borrow.Rule.Slice.PartMut.{same-len-mid}
 use lib.ListN.{length, take, drop, replicate, length-append}
-use Rattle.meaning.specs.Table.{Table, tableOf}
+use Rattle.meaning.specs.Table.{tableOf}
 use Rattle.meaning.specs.Rows.{Row}
 use Rattle.places.specs.Places.{rowLength, workLength, padded}
-use Rattle.places.specs.Memory.{Held, memoryIn, heldsIn, allWords, workWords}
-use Rattle.places.proofs.Rows.{each-append, put-length}
-use Rattle.rows.specs.Steps.{eventOf, Can, stepRow, onRow, depthAfter}
+use Rattle.places.specs.Memory.{Held, heldsIn, allWords, workWords}
+use Rattle.rows.specs.Steps.{eventOf, stepRow, onRow, depthAfter}
 use Rattle.reports.specs.Reports.{reportOf, reportsOf, leftOver, leftOf, putAt, onFront}
 use Rattle.reports.proofs.Puts.{put-more}
-use Rattle.stepping.specs.Stepping.{stepMemory, countsOf, newOf, born}
+use Rattle.stepping.specs.Stepping.{newOf, born}
 use Rattle.stepping.proofs.Kept.{moves-of, none-born, one-born, counted-of, left-new, one-more, reports-few}
 use Rattle.stepping.proofs.Whole.{rest-part}
 use Rattle.stepping.proofs.Taken.{older, run, older-length, later-in, later-helds, later-small, room, closed-words, run-in, run-is, none-added, some-added}
