@@ -4,21 +4,18 @@ use mathlib.Core.Bool.{true, _&&_}
 use mathlib.Core.List.{List}
 use Prim.Native.Nat.{ℕ, zero, suc, _+_, _-_, _*_, _<_, _≤_}
 use native.Mathlib.Omega.{arith}
-use native.Mathlib.Nat.{suc-mul, mul-le-mul-right}
-use native.Mathlib.Numerals.{add-one}
+use native.Mathlib.Nat.{mul-le-mul-right}
 use borrow.Author.Tests.{lt-ltb, le-ltb, le-leb, lt-leb, eq-eqb, ne-eqb}
 use lib.Dec.{ltb, leb, eqb}
 use lib.ListN.{getD}
 use Rattle.places.specs.Places.{levelOf, partOf, rowLength}
+use Rattle.places.proofs.Rows.{row-fits as fits}
 use Rattle.order.specs.declared.Shape.{Shape}
 use Rattle.order.specs.Order.{positionRight, cellRight}
 
-pub next-row : (r w : ℕ) → (r + 1) * w ≡ r * w + w
-next-row r w = rw (add-one r, suc-mul r w)
-
 -- A row that is there is within the n words of all rows.
 pub row-fits : (rows r v w n : ℕ) → w ≡ v → r < rows → rows * v ≡ n → r * w + w ≤ n
-row-fits rows r v w n e h f = rw e (omega (arith, suc-mul r v, mul-le-mul-right v h))
+row-fits rows r v w n e h f = rw e (fits rows r v n h (omega (arith, f)))
 
 pub row-before : (r w : ℕ) → (r - 1) * w ≤ r * w
 row-before r w = mul-le-mul-right w (omega arith)

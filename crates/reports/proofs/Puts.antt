@@ -18,7 +18,8 @@ use Rattle.reports.specs.Reports.{selectedWord, failedWord, reportOf, en
 put-one : (at x : ℕ) (words : List ℕ) → at < length words → set words at x ≡ putAt at (x ∷ []) words
 put-one at x words h = set-split words at x h ∙ sym (append-snoc (take at words) x _) ∙ ap (λ (k : ℕ). take at words ++ (x ∷ []) ++ drop k words) (sym (add-one at))
 
-put-none : (at : ℕ) (words : List ℕ) → words ≡ putAt at [] words
+-- Nothing put leaves the words as they are.
+pub put-none : (at : ℕ) (words : List ℕ) → words ≡ putAt at [] words
 put-none at words =
     sym (ap (λ (k : ℕ). take at words ++ [] ++ drop k words) (add-zero at) ∙ ap (λ (xs : List ℕ). xs ++ drop at words) (append-nil (take at words)) ∙ take-append-drop at words)
 

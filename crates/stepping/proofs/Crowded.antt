@@ -9,7 +9,7 @@ use native.Mathlib.Omega.{arith}
 use native.Mathlib.Decide.{ℕ-discrete}
 use borrow.Author.Tests.{lt-ltb, le-ltb, eq-eqb, ne-eqb}
 use lib.Dec.{ltb, eqb}
-use lib.ListN.{length, getD, take, drop, take-append-drop}
+use lib.ListN.{length, getD, take, drop}
 use lib.Seq.{getD-take, length-take-le}
 use denote.Enum.Declared.{tagOf}
 use Rattle.meaning.specs.Table.{Table, WellFormed}
@@ -26,7 +26,7 @@ use Rattle.rows.specs.declared.Step.the-variants as step
 use Rattle.rows.specs.Steps.{eventOf, stepRow, onRow, inRow, isDecided}
 use Rattle.rows.proofs.Step.{the-type}
 use Rattle.reports.specs.Reports.{selectedWord, failedWord, reportOf, leftOver, leftOf, putAt}
-use Rattle.reports.proofs.Puts.{Put}
+use Rattle.reports.proofs.Puts.{Put, put-none}
 use Rattle.stepping.specs.declared.Counts.{Counts}
 use Rattle.stepping.specs.Stepping.{Stands, newOf, born, stepMemory}
 use Rattle.stepping.proofs.Kept.{left-append, left-few, map-length}
@@ -140,9 +140,6 @@ reported-gone h = go (isSelecting (h .row)) (isRejecting (h .row))
 
 pub one-left : (h : Held) (count after : ℕ) → after ≡ count + length (reportOf h) → after ≡ count → length (leftOver h) ≡ 1
 one-left h count after a e = ap length (unreported-left h (omega (arith, a, e)))
-
-put-none : (at : ℕ) (words : List ℕ) → words ≡ putAt at [] words
-put-none at words = rw (add-zero at, append-nil (take at words), take-append-drop at words)
 
 module _ (h : Held) (w left count : ℕ) (words reports : List ℕ) where
   -- The counts, the words and the reports once the new position has come.

@@ -12,7 +12,8 @@ use Rattle.order.specs.declared.Shape.{Shape}
 use Rattle.order.specs.declared.Place.{Place}
 use Rattle.order.specs.declared.Place.the-variants.{Fine, At}
 use Rattle.order.specs.Order.{wordRight}
-use Rattle.order.proofs.Cells.{next-row, row-fits}
+use Rattle.order.proofs.Cells.{row-fits}
+use Rattle.places.proofs.Rows.{next-row}
 use Rattle.order.proofs.Levels.{levelPlace, levelSearch}
 use Rattle.order.proofs.Search.{at-cell, Rest, rest-start, rest-end, rest-right, rest-wrong, rest-fine, rest-fault}
 use Rattle.order.proofs.first_fault.Statement.{statement}

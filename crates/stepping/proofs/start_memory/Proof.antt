@@ -1,8 +1,14 @@
 -- `start_memory` meets its contract.
-use mathlib.Core.Path.{ap, _∙_}
+use mathlib.Core.Path.{ap, ap₂, _∙_}
+use mathlib.Core.List.{[]}
 use native.Mathlib.Omega.{arith}
 use borrow.Author.Needs.{needs}
-use lib.ListN.{length-set, replicate}
+use lib.ListN.{set, length-set, replicate}
+use Rattle.meaning.specs.Table.{tableOf}
+use Rattle.meaning.specs.Masks.{accsOf}
+use Rattle.meaning.specs.Rows.{startRow}
+use Rattle.places.specs.Places.{stateAt, selectingAt, rejectingAt, workLength}
+use Rattle.places.specs.Memory.{workWords}
 use Rattle.stepping.proofs.Whole.{start-words, start-room}
 use Rattle.stepping.proofs.start_memory.Statement.{statement}
 use Rattle.stepping.proofs.start_memory.Tie as tie
@@ -65,9 +71,17 @@ same-length c = search needs
 returns : tie.Need-returns
 returns c =
     let s = c .before .before .before .before .before .before .before .before .before .before .before .before .before .before .before in
+    let rows = s .args .rows in
+    let depth = s .args .depth in
+    let t = tableOf (s .args .table .now) in
+    let q = c .before .before .before .before .before .before .before .start .result in
     let zeros = c .before .before .before .before .before .before .before .before .before .before .clear .ensures ∙ ap (λ k. replicate k 0) (s .pre .1 .0 .2) in
-    rw (zeros, c .before .before .before .before .before .before .state-at .ensures, c .before .before .before .selecting-at .ensures, c .rejecting-at .ensures, c .before .before .before .before .before .before .before .start .ensures, c .before .before .before .before .safe .ensures, c .before .safe2 .ensures, c .before .before .before .before .before .ends .ensures, c .before .before .ends2 .ensures, c .before .before .before .before .before .before .before .before .before .before .before .before .states .ensures, s .pre .1 .1)
-    (start-words (s .args .rows) (s .args .depth) _ _ _)
+    let selecting = rw (c .before .before .before .before .before .ends .ensures, c .before .before .before .before .before .before .before .before .before .before .before .before .states .ensures, s .pre .1 .1) at (c .before .before .before .before .safe .ensures) in
+    let rejecting = rw (c .before .before .ends2 .ensures, c .before .before .before .before .before .before .before .before .before .before .before .before .states .ensures, s .pre .1 .1) at (c .before .safe2 .ensures) in
+    rw (zeros, c .before .before .before .before .before .before .state-at .ensures, c .before .before .before .selecting-at .ensures, c .rejecting-at .ensures)
+    (ap₂ (λ x y. set (set (set (replicate (workLength rows depth) 0) (stateAt 0) q) (selectingAt 0) x) (rejectingAt 0) y) selecting rejecting
+    ∙ start-words rows depth q _ _
+    ∙ ap (λ z. workWords rows depth (record { run = record { newest = record { state = z; selecting = startRow t (accsOf t) .newest .selecting; rejecting = startRow t (accsOf t) .newest .rejecting }; below = [] }; alive = [] })) (c .before .before .before .before .before .before .before .start .ensures))
 
 pub start-memory-spec : {M : Type 1} → statement M
 start-memory-spec =
