@@ -6,12 +6,13 @@ use mathlib.Core.Logic.{_↔_}
 use mathlib.Core.Path.{_≡_, refl, sym, ap, _∙_}
 use Prim.Native.Nat.{ℕ, _+_, _<_}
 use native.Mathlib.Omega.{arith}
-use lib.Dec.{eqb}
+use lib.Dec.{T, eqb}
 use lib.ListN.{length}
 use borrow.Author.Tests.{eqb-true, ltb-true, lt-ltb}
 use Rattle.meaning.specs.Table.{tableOf}
-use Rattle.meaning.specs.Refusals.{Line, FirstAt, firstOf, appliesAt, givesAt}
-use Rattle.meaning.proofs.Refusals.{given-exactly, taken-exactly, none-taken}
+use Rattle.meaning.specs.Masks.{all}
+use Rattle.meaning.specs.Refusals.{Line, FirstAt, firstOf, appliesAt, givesAt, numbers, distinct}
+use Rattle.meaning.proofs.Refusals.{given-exactly, taken-exactly}
 use Rattle.meaning.proofs.Tests.{all-holds}
 use Rattle.answers.specs.declared.Record.{Record}
 use Rattle.answers.specs.declared.Refusal.the-variants as why
@@ -21,11 +22,10 @@ use Rattle.answers.specs.Answers.{outcomeNumber}
 use Rattle.judge.specs.declared.Judged.{Judged}
 use Rattle.judge.specs.declared.Judged.the-variants.{Fine, Refused}
 use Rattle.judge.specs.Judging.{judgedNumber, judgedLines, startLines}
-use Rattle.judge.proofs.Following.{first-append}
-use Rattle.judge.proofs.Numbers as judge
-use Rattle.engine.specs.Calls.{After, lines, rowsLines, taking, unless, answerOf}
+use Rattle.engine.specs.Calls.{After, lines, taking, unless, answerOf}
 use Rattle.engine.specs.Calls.{eventJudged, eventAfter, eventAnswer, eventWork, eventReports}
 use Rattle.engine.specs.Calls.{startJudged, startAfter, startAnswer, startWork}
+use Rattle.engine.proofs.Taking.{judged-passes}
 
 -- An answer has the number of its judgement.
 answer-number : (j : Judged) (r : Record) (after : After) → outcomeNumber (answerOf j r after .outcome) ≡ judgedNumber j
@@ -41,6 +41,17 @@ old-kept : (j : Judged) (r : Record) (after : After) (old new : List ℕ) → 0 
 old-kept Fine r after old new h = absurd (omega (arith, h))
 old-kept (Refused why) r after old new h = refl
 
+-- Lines that give the numbers 1 to `count`, in order: number i + 1 is given exactly when line i, counted from 0, applies
+-- and none before it does.
+numbered-exactly :
+    (ls : List (Line Judged)) (count : ℕ) → length ls ≡ count → T (distinct (numbers judgedNumber ls Fine)) →
+    all count (λ i. eqb (judgedNumber (givesAt ls Fine i)) (i + 1)) ≡ true → (x : ℕ) → x ≡ judgedNumber (firstOf ls Fine) →
+    (i : ℕ) → i < count → (x ≡ i + 1) ↔ FirstAt ls i
+numbered-exactly ls count long different in-order x e i l =
+    let number : judgedNumber (givesAt ls Fine i) ≡ i + 1 = eqb-true _ _ (all-holds count (λ i. eqb (judgedNumber (givesAt ls Fine i)) (i + 1)) in-order i l) in
+    let exactly = given-exactly judgedNumber Fine ls different i (omega (arith, long)) in
+    (λ h. exactly .0 (sym e ∙ h ∙ sym number), λ h. e ∙ exactly .1 h ∙ number)
+
 module _ (f : List ℕ) (r : Record) (work reports : List ℕ) (byte : ℕ) where
   answered : outcomeNumber (eventAnswer f r work reports byte .outcome) ≡ judgedNumber (eventJudged f r work reports byte)
   answered = answer-number (eventJudged f r work reports byte) r (eventAfter f r work byte)
@@ -50,12 +61,7 @@ module _ (f : List ℕ) (r : Record) (work reports : List ℕ) (byte : ℕ) wher
   pub event-exactly :
       (i : ℕ) → i < 15 →
       (outcomeNumber (eventAnswer f r work reports byte .outcome) ≡ i + 1) ↔ FirstAt (lines f r work (length reports) (meaningOf byte)) i
-  event-exactly i l =
-      let ls : List (Line Judged) = lines f r work (length reports) (meaningOf byte) in
-      let test : ℕ → Bool = λ i. eqb (judgedNumber (givesAt ls Fine i)) (i + 1) in
-      let number : judgedNumber (givesAt ls Fine i) ≡ i + 1 = eqb-true _ _ (all-holds 15 test refl i l) in
-      let exactly = given-exactly judgedNumber Fine ls tt i l in
-      (λ h. exactly .0 (sym answered ∙ h ∙ sym number), λ h. answered ∙ exactly .1 h ∙ number)
+  event-exactly i l = numbered-exactly (lines f r work (length reports) (meaningOf byte)) 15 refl tt refl _ answered i l
 
   -- An event is taken exactly when no line applies.
   pub event-taken :
@@ -79,10 +85,7 @@ module _ (f : List ℕ) (r : Record) (work reports : List ℕ) (byte : ℕ) wher
       firstOf (judgedLines f r work (length reports) (meaningOf byte)) Fine ≡ Fine →
       (eventJudged f r work reports byte ≡ Refused why.Rows) ↔ (r .rows < taking (tableOf f) r work (meaningOf byte) .next .alive)
   room-exactly h =
-      let ls : List (Line Judged) = judgedLines f r work (length reports) (meaningOf byte) in
-      let last : Judged = firstOf (rowsLines r (eventAfter f r work byte)) Fine in
-      let none = judge.judged-none f r work (length reports) (meaningOf byte) .0 (ap judgedNumber h) in
-      let whole : eventJudged f r work reports byte ≡ last = first-append ls (rowsLines r (eventAfter f r work byte)) Fine ∙ none-taken judgedNumber last ls none in
+      let whole = judged-passes f r work (length reports) (meaningOf byte) (eventAfter f r work byte) h in
       (λ g. ltb-true _ _ (full _ (sym whole ∙ g)), λ g. whole ∙ ap (λ (b : Bool). cond b (Refused why.Rows) Fine) (lt-ltb _ _ g))
     where
       full : (b : Bool) → cond b (Refused why.Rows) Fine ≡ Refused why.Rows → b ≡ true
@@ -99,15 +102,13 @@ module _ (f : List ℕ) (rows depth : ℕ) (work : List ℕ) where
   pub start-exactly :
       (i : ℕ) → i < 6 →
       (outcomeNumber (startAnswer f rows depth work .outcome) ≡ i + 1) ↔ FirstAt (startLines f rows depth (length work)) i
-  start-exactly i l =
-      let exactly = judge.start-exactly f rows depth (length work) i l in
-      (λ h. exactly .0 (sym started ∙ h), λ h. started ∙ exactly .1 h)
+  start-exactly i l = numbered-exactly (startLines f rows depth (length work)) 6 refl tt refl _ started i l
 
   pub start-taken :
       (outcomeNumber (startAnswer f rows depth work .outcome) ≡ 0)
       ↔ ((i : ℕ) → appliesAt (startLines f rows depth (length work)) i ≡ false)
   start-taken =
-      let exactly = judge.start-none f rows depth (length work) in
+      let exactly = taken-exactly judgedNumber Fine (startLines f rows depth (length work)) tt in
       (λ h. exactly .0 (sym started ∙ h), λ h. started ∙ exactly .1 h)
 
   -- A refused start gives a record of zeros, and leaves work memory as it was.

@@ -38,18 +38,15 @@ stepRecord stream.Close r = shallowerOf r
 abbrev pub memoryOf : Record → List ℕ → Memory
 memoryOf r work = memoryIn (r .allowed) (r .depth) (r .alive) work
 
--- An open, point or close, over any sets in acc's place: the rows step, decided rows are reported and go.
-abbrev pub steppedOver : Table → List ℕ → Record → List ℕ → stream.Event → After
-steppedOver t accs r work e =
-    let m = stepMemory t accs e (r .positions) (memoryOf r work) in
+-- An open, point or close: the rows step, decided rows are reported and go.
+abbrev pub stepped : Table → Record → List ℕ → stream.Event → After
+stepped t r work e =
+    let m = stepMemory t (accsOf t) e (r .positions) (memoryOf r work) in
     record {
       next = withAlive (length (leftOf (m .alive))) (stepRecord e r);
       work = workWords (r .rows) (r .allowed) (leftMemory m);
       reports = reportsOf (m .alive);
     }
-
-abbrev pub stepped : Table → Record → List ℕ → stream.Event → After
-stepped t r work e = steppedOver t (accsOf t) r work e
 
 -- The sets acc that an event needs: an open needs them, a point or close none.
 abbrev pub accsFor : Table → stream.Event → List ℕ
