@@ -1,0 +1,67 @@
+-- Demand 1: nothing is assumed of a caller. Assumes nothing.
+use mathlib.Core.Bool.{Bool, true, false, cond, _&&_}
+use mathlib.Core.List.{List, [], _∷_}
+use mathlib.Core.Path.{_≡_, refl}
+use Prim.Native.Nat.{ℕ, _<_}
+use native.Mathlib.Omega.{arith}
+use lib.Dec.{T, ltb, ltb→lt}
+use lib.ListN.{length}
+use Rattle.meaning.specs.Refusals.{Line, firstOf, numbers}
+use Rattle.meaning.proofs.Tests.{and-left, and-right}
+use Rattle.answers.specs.declared.Record.{Record}
+use Rattle.answers.specs.Record.{noRecord}
+use Rattle.answers.specs.Bytes.{meaningOf}
+use Rattle.answers.specs.Answers.{outcomeNumber}
+use Rattle.judge.specs.declared.Judged.{Judged}
+use Rattle.judge.specs.declared.Judged.the-variants.{Fine, Refused}
+use Rattle.judge.specs.Judging.{judgedNumber, startLines}
+use Rattle.engine.specs.Calls.{After, lines, answerOf, eventJudged, eventAfter, eventAnswer, startJudged, startAfter}
+use Rattle.engine.proofs.Numbers.{event-exactly, event-taken, refused-keeps, start-exactly, start-taken, start-refused-keeps}
+use Rattle.demands.specs.Watching.{countOf}
+use Rattle.demands.specs.Demands.{Demand1, StartDemand1}
+
+-- Every number of a list is below k.
+abbrev below : ℕ → List ℕ → Bool
+below k [] = true
+below k (x ∷ xs) = ltb x k && below k xs
+
+-- What is given has a number below k where all lines' have.
+given-below : (k : ℕ) (ls : List (Line Judged)) → T (below k (numbers judgedNumber ls Fine)) → judgedNumber (firstOf ls Fine) < k
+given-below k [] h = ltb→lt 0 k (and-left (ltb 0 k) true h)
+given-below k (l ∷ ls) h =
+    let rest : Bool = below k (numbers judgedNumber ls Fine) in
+    go (l .applies) (ltb→lt _ k (and-left (ltb (judgedNumber (l .gives)) k) rest h)) (given-below k ls (and-right (ltb (judgedNumber (l .gives)) k) rest h))
+  where
+    go : (b : Bool) → judgedNumber (l .gives) < k → judgedNumber (firstOf ls Fine) < k → judgedNumber (cond b (l .gives) (firstOf ls Fine)) < k
+    go true first later = first
+    go false first later = later
+
+answer-below : (k : ℕ) (j : Judged) (r : Record) (after : After) → judgedNumber j < k → outcomeNumber (answerOf j r after .outcome) < k
+answer-below k Fine r after h = h
+answer-below k (Refused why) r after h = h
+
+none-counted : (j : Judged) (r : Record) (after : After) → 0 < outcomeNumber (answerOf j r after .outcome) → countOf (answerOf j r after .outcome) ≡ 0
+none-counted Fine r after h = absurd (omega (arith, h))
+none-counted (Refused why) r after h = refl
+
+pub demand-1 : (f : List ℕ) (r : Record) (work reports : List ℕ) (byte : ℕ) → Demand1 f r work reports byte
+demand-1 f r work reports byte =
+    let j = eventJudged f r work reports byte in
+    let after = eventAfter f r work byte in
+    record {
+      refused-exactly = event-exactly f r work reports byte;
+      taken-exactly = event-taken f r work reports byte;
+      answered = answer-below 16 j r after (given-below 16 (lines f r work (length reports) (meaningOf byte)) tt);
+      kept = λ h.
+          let k = refused-keeps f r work reports byte h in
+          (k .0, none-counted j r after h, k .1, k .2);
+    }
+
+pub start-demand-1 : (f : List ℕ) (rows depth : ℕ) (work : List ℕ) → StartDemand1 f rows depth work
+start-demand-1 f rows depth work =
+    record {
+      refused-exactly = start-exactly f rows depth work;
+      taken-exactly = start-taken f rows depth work;
+      answered = answer-below 7 (startJudged f rows depth work) noRecord (startAfter f rows depth) (given-below 7 (startLines f rows depth (length work)) tt);
+      kept = start-refused-keeps f rows depth work;
+    }

@@ -1,0 +1,335 @@
+-- A watch follows its stream: after a taken start and any calls, record and memory are those of the events taken. Assumes
+-- nothing but that the start was taken.
+use mathlib.Core.Bool.{Bool, true, false, true≢false}
+use mathlib.Core.List.{List, [], _∷_, _++_}
+use mathlib.Core.Path.{_≡_, refl, sym, ap, _∙_, subst}
+use Prim.Native.Nat.{ℕ, zero, suc, _+_, _-_, _<_, _≤_}
+use native.Mathlib.Numerals.{add-one}
+use native.Mathlib.Omega.{arith}
+use borrow.Author.Tests.{ltb-false}
+use lib.Dec.{ltb}
+use lib.ListN.{length, replicate}
+use Rattle.meaning.specs.Table.{Table, WellFormed, tableOf}
+use Rattle.meaning.specs.Masks.{accsOf}
+use Rattle.meaning.specs.Refusals.{firstOf}
+use Rattle.meaning.specs.Streams as stream
+use Rattle.meaning.specs.Streams.{positions, Reads, Prefix}
+use Rattle.meaning.proofs.Refusals.{none-taken}
+use Rattle.meaning.proofs.Streams.{reads-join}
+use Rattle.bodies.specs.Sound.{statesIn, labelsIn}
+use Rattle.places.specs.Places.{workLength}
+use Rattle.places.specs.Memory.{Held, Memory, workWords}
+use Rattle.rows.specs.Steps.{depthAfter}
+use Rattle.reports.specs.Reports.{reportsOf, endReports}
+use Rattle.stepping.specs.Stepping.{stepMemory, leftMemory}
+use Rattle.answers.specs.declared.Record.{Record}
+use Rattle.answers.specs.declared.Answer.{Answer}
+use Rattle.answers.specs.declared.Event.{Event}
+use Rattle.answers.specs.declared.Event.the-variants.{Open, Point, Close, End, Unknown}
+use Rattle.answers.specs.Bytes.{meaningOf}
+use Rattle.answers.specs.Answers.{outcomeNumber}
+use Rattle.answers.specs.Record.{noRecord, withAlive, finishedOf}
+use Rattle.judge.specs.declared.Judged.{Judged}
+use Rattle.judge.specs.declared.Judged.the-variants.{Fine, Refused}
+use Rattle.judge.specs.Judging.{judgedNumber, judgedLines, startLines}
+use Rattle.judge.proofs.Passed.{EventPassed, passed, event-passed, start-passed}
+use Rattle.engine.specs.Calls.{After, stepRecord, memoryOf, stepped, taking, answerOf, unless, eventAnswer, startJudged, startAfter}
+use Rattle.engine.proofs.Numbers.{event-taken, start-taken}
+use Rattle.following.specs.Following.{memoryAfter}
+use Rattle.following.proofs.Ordered.{work-length, memory-back}
+use Rattle.following.proofs.Stays.{positions-append}
+use Rattle.following.proofs.Follows.{follows}
+use Rattle.following.proofs.Held.{memory-good}
+use Rattle.demands.specs.Watching.{Call, Stream, Watching, longer, begun, Started, called, calledAll, watching}
+use Rattle.demands.proofs.Taking.{early-judged, taken-answer, having, judgedOf, afterOf, refused-call, taken-call}
+
+-- The record and the memory of a watch that has taken w, with d levels open, and after its end.
+abbrev pub recordAt : Table → ℕ → ℕ → ℕ → List stream.Event → Bool → Record
+recordAt t rows depth d w false =
+    record { rows = rows; allowed = depth; depth = d; alive = length (memoryAfter t w .alive); positions = positions w; finished = false }
+recordAt t rows depth d w true =
+    record { rows = rows; allowed = depth; depth = 0; alive = 0; positions = positions w; finished = true }
+
+abbrev pub workAt : Table → ℕ → ℕ → List stream.Event → Bool → List ℕ
+workAt t rows depth w false = workWords rows depth (memoryAfter t w)
+workAt t rows depth w true = replicate (workLength rows depth) 0
+
+pub record Follows (f : List ℕ) (rows depth : ℕ) (s : Watching) : Type 0 where
+  pub formed : WellFormed (tableOf f)
+  pub few-levels : depth ≤ 40
+  pub levels : ℕ
+  pub reads : Prefix (tableOf f) (s .stream .events) levels
+  pub deep : levels ≤ depth
+  pub room : length (memoryAfter (tableOf f) (s .stream .events) .alive) ≤ rows
+  pub numbered : positions (s .stream .events) ≤ 2147483647
+  pub closed : s .stream .ended ≡ true → levels ≡ 0
+  pub now-is : s .now ≡ recordAt (tableOf f) rows depth levels (s .stream .events) (s .stream .ended)
+  pub work-is : s .work ≡ workAt (tableOf f) rows depth (s .stream .events) (s .stream .ended)
+
+---------------------------------------------------------------- the start
+
+pub follows-start : (f : List ℕ) (rows depth : ℕ) (work : List ℕ) → Started f rows depth work → Follows f rows depth (begun f rows depth work)
+follows-start f rows depth work h =
+    let fine : startJudged f rows depth work ≡ Fine = none-taken judgedNumber Fine (startLines f rows depth (length work)) (start-taken f rows depth work .0 h) in
+    let p = start-passed f rows depth (length work) fine in
+    record {
+      formed = p .sound .formed;
+      few-levels = p .few-levels;
+      levels = 0;
+      reads = Reads.none;
+      deep = omega arith;
+      room = omega arith;
+      numbered = omega arith;
+      closed = λ e. refl;
+      now-is = ap (λ j. answerOf j noRecord (startAfter f rows depth) .next) fine;
+      work-is = ap (λ j. unless j work (startAfter f rows depth .work)) fine;
+    }
+
+---------------------------------------------------------------- events
+
+-- A byte that means an event of the stream means this.
+abbrev pub byteOf : stream.Event → Event
+byteOf (stream.Open a) = Open a
+byteOf (stream.Point a) = Point a
+byteOf stream.Close = Close
+
+-- What a byte means: an event of the stream, the end, or nothing.
+pub data Kind : Event → Type 0 where
+  event : (e : stream.Event) → Kind (byteOf e)
+  end : Kind End
+  nothing : Kind Unknown
+
+pub kind : (e : Event) → Kind e
+kind (Open a) = event (stream.Open a)
+kind (Point a) = event (stream.Point a)
+kind Close = event stream.Close
+kind End = end
+kind Unknown = nothing
+
+taking-event : (t : Table) (r : Record) (work : List ℕ) (e : stream.Event) → taking t r work (byteOf e) ≡ stepped t r work e
+taking-event t r work (stream.Open a) = refl
+taking-event t r work (stream.Point a) = refl
+taking-event t r work stream.Close = refl
+
+longer-event : (s : Stream) (e : stream.Event) → longer s (byteOf e) ≡ record { events = s .events ++ (e ∷ []); ended = s .ended }
+longer-event s (stream.Open a) = refl
+longer-event s (stream.Point a) = refl
+longer-event s stream.Close = refl
+
+-- An event that passed 9 to 14 is read, within the depth allowed and the positions that there are.
+pub record Readable (k : ℕ) (r : Record) (e : stream.Event) : Type 0 where
+  pub reads-on : Reads k (r .depth) (e ∷ []) (depthAfter e (r .depth))
+  pub still-deep : depthAfter e (r .depth) ≤ r .allowed
+  pub still-numbered : r .positions + positions (e ∷ []) ≤ 2147483647
+
+readable : (k : ℕ) (r : Record) (e : stream.Event) → EventPassed k r (byteOf e) → r .depth ≤ r .allowed → r .positions ≤ 2147483647 → Readable k r e
+readable k r (stream.Open a) p d n =
+    record { reads-on = rw (add-one (r .depth)) (Reads.opens (p .0) Reads.none); still-deep = omega (arith, p .1); still-numbered = omega (arith, p .2) }
+readable k r (stream.Point a) p d n =
+    record { reads-on = Reads.points (p .0) Reads.none; still-deep = d; still-numbered = omega (arith, p .1) }
+readable k r stream.Close p d n =
+    let e : r .depth ≡ suc (r .depth - 1) = omega (arith, p) in
+    record { reads-on = subst (λ (x : ℕ). Reads k x (stream.Close ∷ []) (r .depth - 1)) (sym e) (Reads.closes Reads.none); still-deep = omega arith; still-numbered = omega arith }
+
+-- The record after an event is that of the stream with it.
+record-on : (rows depth d alive p : ℕ) (e : stream.Event) →
+    stepRecord e (record { rows = rows; allowed = depth; depth = d; alive = alive; positions = p; finished = false })
+    ≡ record { rows = rows; allowed = depth; depth = depthAfter e d; alive = alive; positions = p + positions (e ∷ []); finished = false }
+record-on rows depth d alive p (stream.Open a) = refl
+record-on rows depth d alive p (stream.Point a) = refl
+record-on rows depth d alive p stream.Close = ap (λ (x : ℕ). record { rows = rows; allowed = depth; depth = d - 1; alive = alive; positions = x; finished = false }) (omega arith)
+
+module _ (f : List ℕ) (rows depth : ℕ) (s : Watching) (follow : Follows f rows depth s) (c : Call) where
+  abbrev t : Table
+  t = tableOf f
+
+  abbrev w : List stream.Event
+  w = s .stream .events
+
+  -- While the end is not taken, memory stands for the rows of the events taken.
+  pub memory-now : s .stream .ended ≡ false → memoryOf (s .now) (s .work) ≡ memoryAfter t w
+  memory-now e =
+      let now : s .now ≡ recordAt t rows depth (follow .levels) w false = follow .now-is ∙ ap (recordAt t rows depth (follow .levels) w) e in
+      let work : s .work ≡ workAt t rows depth w false = follow .work-is ∙ ap (workAt t rows depth w) e in
+      ap (λ (r : Record). memoryOf r (s .work)) now
+      ∙ ap (memoryOf (recordAt t rows depth (follow .levels) w false)) work
+      ∙ memory-back (t .states) rows depth (follow .levels) (memoryAfter t w) (follow .few-levels) (follow .deep) (follow .room) (memory-good t (follow .formed) (follow .reads))
+
+  -- The stream with one event more.
+  abbrev next : stream.Event → List stream.Event
+  next e = w ++ (e ∷ [])
+
+  -- The reports of an event, and of the end.
+  abbrev pub reported : stream.Event → List ℕ
+  reported e = reportsOf (stepMemory t (accsOf t) e (positions w) (memoryAfter t w) .alive)
+
+  abbrev pub endReported : List ℕ
+  endReported = endReports t (memoryAfter t w .alive)
+
+  -- None of 1 to 14 applies.
+  abbrev pub Early : Type 0
+  Early = firstOf (judgedLines f (s .now) (s .work) (length (c .lent)) (meaningOf (c .byte))) Fine ≡ Fine
+
+  pub early : judgedOf f s c ≡ Fine → Early
+  early fine = early-judged f (s .now) (s .work) (c .lent) (c .byte) fine
+
+  module _ (free : Early) where
+    -- Then the end was not taken before.
+    pub going-on : s .stream .ended ≡ false
+    going-on = go (s .stream .ended) (follow .now-is)
+      where
+        go : (b : Bool) → s .now ≡ recordAt t rows depth (follow .levels) w b → b ≡ false
+        go false e = refl
+        go true e =
+            absurd (true≢false (sym (ap (λ (r : Record). r .finished) e) ∙ passed f (s .work) (s .now) (length (c .lent)) (meaningOf (c .byte)) free .going-on))
+
+    abbrev before : Record
+    before = recordAt t rows depth (follow .levels) w false
+
+    now-before : s .now ≡ before
+    now-before = follow .now-is ∙ ap (recordAt t rows depth (follow .levels) w) going-on
+
+    passed-as : (e : Event) → meaningOf (c .byte) ≡ e → EventPassed (labelsIn f) before e
+    passed-as e is =
+        subst (λ (r : Record). EventPassed (labelsIn f) r e) now-before
+        (subst (EventPassed (labelsIn f) (s .now)) is
+        (event-passed f (s .work) (s .now) (length (c .lent)) (meaningOf (c .byte)) free))
+
+    -- An open, point or close.
+    module _ (e : stream.Event) (is : meaningOf (c .byte) ≡ byteOf e) where
+      pub can-read : Readable (t .labels) before e
+      can-read = readable (t .labels) before e (passed-as (byteOf e) is) (follow .deep) (follow .numbered)
+
+      -- A step from rows that are held.
+      abbrev from : Record → Memory → After
+      from r m =
+          record {
+            next = withAlive (length (leftMemory (stepMemory t (accsOf t) e (r .positions) m) .alive)) (stepRecord e r);
+            work = workWords (r .rows) (r .allowed) (leftMemory (stepMemory t (accsOf t) e (r .positions) m));
+            reports = reportsOf (stepMemory t (accsOf t) e (r .positions) m .alive);
+          }
+
+      pub after-event : afterOf f s c ≡ record {
+        next = recordAt t rows depth (depthAfter e (follow .levels)) (next e) false;
+        work = workAt t rows depth (next e) false;
+        reports = reported e;
+      }
+      after-event =
+          ap (taking t (s .now) (s .work)) is
+          ∙ taking-event t (s .now) (s .work) e
+          ∙ ap (from (s .now)) (memory-now going-on)
+          ∙ ap (λ (r : Record). from r (memoryAfter t w)) now-before
+          ∙ ap (λ (m : Memory). record { next = withAlive (length (m .alive)) (stepRecord e before); work = workWords rows depth m; reports = reported e })
+          (follows t (follow .formed) e (follow .reads) (can-read .reads-on))
+          ∙ ap (λ (r : Record). record { next = withAlive (length (memoryAfter t (next e) .alive)) r; work = workWords rows depth (memoryAfter t (next e)); reports = reported e })
+          (record-on rows depth (follow .levels) (length (memoryAfter t w .alive)) (positions w) e)
+          ∙ ap (λ (p : ℕ). record {
+            next = record { rows = rows; allowed = depth; depth = depthAfter e (follow .levels); alive = length (memoryAfter t (next e) .alive); positions = p; finished = false };
+            work = workWords rows depth (memoryAfter t (next e));
+            reports = reported e;
+          })
+          (sym (positions-append w (e ∷ [])))
+
+    -- The end.
+    module _ (is : meaningOf (c .byte) ≡ End) where
+      all-closed : follow .levels ≡ 0
+      all-closed = passed-as End is
+
+      pub after-end : afterOf f s c ≡ record { next = recordAt t rows depth 0 w true; work = workAt t rows depth w true; reports = endReported }
+      after-end =
+          let long : length (s .work) ≡ workLength rows depth =
+          ap length (follow .work-is ∙ ap (workAt t rows depth w) going-on)
+          ∙ work-length (t .states) rows depth (follow .levels) (memoryAfter t w) (follow .few-levels) (follow .deep) (follow .room) (memory-good t (follow .formed) (follow .reads)) in
+          ap (taking t (s .now) (s .work)) is
+          ∙ ap (λ (m : Memory). record { next = finishedOf (s .now); work = replicate (length (s .work)) 0; reports = endReports t (m .alive) }) (memory-now going-on)
+          ∙ ap (λ (r : Record). record { next = finishedOf r; work = replicate (length (s .work)) 0; reports = endReported }) now-before
+          ∙ ap (λ (n : ℕ). record { next = recordAt t rows depth 0 w true; work = replicate n 0; reports = endReported }) long
+
+  -- The call is taken: what the caller then has.
+  module _ (fine : judgedOf f s c ≡ Fine) where
+    module _ (e : stream.Event) (is : meaningOf (c .byte) ≡ byteOf e) where
+      pub called-event : called f s c ≡ record {
+        stream = record { events = next e; ended = false };
+        now = recordAt t rows depth (depthAfter e (follow .levels)) (next e) false;
+        work = workAt t rows depth (next e) false;
+        reports = s .reports ++ (reported e ∷ []);
+      }
+      called-event =
+          taken-call f s c fine
+          ∙ ap (λ (x : Event). having s (longer (s .stream) x) (afterOf f s c)) is
+          ∙ ap (λ (x : Stream). having s x (afterOf f s c)) (longer-event (s .stream) e)
+          ∙ ap (λ (b : Bool). having s (record { events = next e; ended = b }) (afterOf f s c)) (going-on (early fine))
+          ∙ ap (having s (record { events = next e; ended = false })) (after-event (early fine) e is)
+
+      -- 15 did not apply.
+      fits : length (memoryAfter t (next e) .alive) ≤ rows
+      fits =
+          let taken : outcomeNumber (eventAnswer f (s .now) (s .work) (c .lent) (c .byte) .outcome) ≡ 0 = ap (λ (x : Answer). outcomeNumber (x .outcome)) (taken-answer f (s .now) (s .work) (c .lent) (c .byte) fine) in
+          let some : afterOf f s c .next .alive ≤ s .now .rows = ltb-false (s .now .rows) (afterOf f s c .next .alive) (event-taken f (s .now) (s .work) (c .lent) (c .byte) .0 taken 14) in
+          let alive : afterOf f s c .next .alive ≡ length (memoryAfter t (next e) .alive) = ap (λ (a : After). a .next .alive) (after-event (early fine) e is) in
+          let all : s .now .rows ≡ rows = ap (λ (r : Record). r .rows) (now-before (early fine)) in
+          omega (arith, some, alive, all)
+
+      follows-event : Follows f rows depth (called f s c)
+      follows-event =
+          subst (Follows f rows depth) (sym called-event)
+          (record {
+            formed = follow .formed;
+            few-levels = follow .few-levels;
+            levels = depthAfter e (follow .levels);
+            reads = reads-join (follow .reads) (can-read (early fine) e is .reads-on);
+            deep = can-read (early fine) e is .still-deep;
+            room = fits;
+            numbered = omega (arith, can-read (early fine) e is .still-numbered, positions-append w (e ∷ []));
+            closed = λ b. absurd (true≢false (sym b));
+            now-is = refl;
+            work-is = refl;
+          })
+
+    module _ (is : meaningOf (c .byte) ≡ End) where
+      pub called-end : called f s c ≡ record {
+        stream = record { events = w; ended = true };
+        now = recordAt t rows depth 0 w true;
+        work = workAt t rows depth w true;
+        reports = s .reports ++ (endReported ∷ []);
+      }
+      called-end =
+          taken-call f s c fine
+          ∙ ap (λ (x : Event). having s (longer (s .stream) x) (afterOf f s c)) is
+          ∙ ap (having s (record { events = w; ended = true })) (after-end (early fine) is)
+
+      follows-end : Follows f rows depth (called f s c)
+      follows-end =
+          subst (Follows f rows depth) (sym called-end)
+          (record {
+            formed = follow .formed;
+            few-levels = follow .few-levels;
+            levels = 0;
+            reads = subst (Prefix t w) (all-closed (early fine) is) (follow .reads);
+            deep = omega arith;
+            room = follow .room;
+            numbered = follow .numbered;
+            closed = λ b. refl;
+            now-is = refl;
+            work-is = refl;
+          })
+
+pub follows-call : (f : List ℕ) (rows depth : ℕ) (s : Watching) → Follows f rows depth s → (c : Call) → Follows f rows depth (called f s c)
+follows-call f rows depth s follow c = go (judgedOf f s c) refl
+  where
+    taken : judgedOf f s c ≡ Fine → (x : Event) → meaningOf (c .byte) ≡ x → Kind x → Follows f rows depth (called f s c)
+    taken fine x is (Kind.event e) = follows-event f rows depth s follow c fine e is
+    taken fine x is Kind.end = follows-end f rows depth s follow c fine is
+    taken fine x is Kind.nothing = absurd (passed-as f rows depth s follow c (early f rows depth s follow c fine) Unknown is)
+
+    go : (j : Judged) → judgedOf f s c ≡ j → Follows f rows depth (called f s c)
+    go Fine e = taken e (meaningOf (c .byte)) refl (kind (meaningOf (c .byte)))
+    go (Refused why) e = subst (Follows f rows depth) (sym (refused-call f s c why e)) follow
+
+-- After any calls.
+pub follows-calls : (f : List ℕ) (rows depth : ℕ) (cs : List Call) (s : Watching) → Follows f rows depth s → Follows f rows depth (calledAll f s cs)
+follows-calls f rows depth [] s follow = follow
+follows-calls f rows depth (c ∷ cs) s follow = follows-calls f rows depth cs (called f s c) (follows-call f rows depth s follow c)
+
+pub follows-watching : (f : List ℕ) (rows depth : ℕ) (work : List ℕ) → Started f rows depth work → (cs : List Call) → Follows f rows depth (watching f rows depth work cs)
+follows-watching f rows depth work h cs = follows-calls f rows depth cs (begun f rows depth work) (follows-start f rows depth work h)

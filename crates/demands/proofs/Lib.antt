@@ -1,0 +1,3 @@
+pub mod Demand1
+pub mod Taking
+pub mod Follows

@@ -1,0 +1,145 @@
+-- The demands, each a record with a field for each thing that it asks. Definitions only; that they hold is `demand-1`,
+-- `demand-2` and so on in proofs/.
+--
+-- f is the table file. What is said of a watch s is asked of every watch that a taken start and any calls lead to; what is said
+-- of a call c, of every next call.
+use mathlib.Core.Bool.{true, false}
+use mathlib.Core.List.{List, [], _∷_, map}
+use mathlib.Core.Logic.{_↔_, _⊎_}
+use mathlib.Core.Path.{_≡_}
+use Prim.Native.Nat.{ℕ, _+_, _<_}
+use lib.ListN.{length, replicate}
+use Rattle.meaning.specs.Table.{Table, tableOf}
+use Rattle.meaning.specs.Streams.{positions, Prefix, Whole, Selects}
+use Rattle.meaning.specs.Refusals.{FirstAt, appliesAt}
+use Rattle.places.specs.Places.{workLength}
+use Rattle.places.specs.Memory.{Held, workWords}
+use Rattle.reports.specs.Reports.{selectedWord, failedWord, onFront}
+use Rattle.answers.specs.declared.Record.{Record}
+use Rattle.answers.specs.Record.{noRecord}
+use Rattle.answers.specs.Bytes.{meaningOf}
+use Rattle.answers.specs.Answers.{outcomeNumber}
+use Rattle.judge.specs.Judging.{startLines}
+use Rattle.engine.specs.Calls.{memoryOf, lines, eventAfter, eventAnswer, eventWork, eventReports, startAnswer, startWork}
+use Rattle.following.specs.Lists.{In, Rising, positionOf, times}
+use Rattle.following.specs.Following.{memoryAfter, heldAfter, positionsOf}
+use Rattle.demands.specs.Watching.{Call, Watching, longer, countOf, outcomeOf, given, called, calledAll, joined}
+use Rattle.demands.specs.Deciding.{Read, CertainIn, RuledOutIn, AliveIn, Pending, AliveAre}
+
+---------------------------------------------------------------- demand 1
+
+-- Of an event call with any table, record, memory, slice for reports and byte.
+pub record Demand1 (f : List ℕ) (r : Record) (work reports : List ℕ) (byte : ℕ) : Type 0 where
+  -- Refusal i + 1 is given exactly when its line applies and no line before it does.
+  pub refused-exactly :
+      (i : ℕ) → i < 15 →
+      (outcomeNumber (eventAnswer f r work reports byte .outcome) ≡ i + 1) ↔ FirstAt (lines f r work (length reports) (meaningOf byte)) i
+  -- The call is taken exactly when no line applies.
+  pub taken-exactly :
+      (outcomeNumber (eventAnswer f r work reports byte .outcome) ≡ 0)
+      ↔ ((i : ℕ) → appliesAt (lines f r work (length reports) (meaningOf byte)) i ≡ false)
+  -- It is taken, or refused by one of the fifteen.
+  pub answered : outcomeNumber (eventAnswer f r work reports byte .outcome) < 16
+  -- Refused, it gives its record back and 0 as the number of reports, and leaves memory and reports as they were.
+  pub kept :
+      0 < outcomeNumber (eventAnswer f r work reports byte .outcome) →
+      (eventAnswer f r work reports byte .next ≡ r)
+      × (countOf (eventAnswer f r work reports byte .outcome) ≡ 0)
+      × (eventWork f r work reports byte ≡ work)
+      × (eventReports f r work reports byte ≡ reports)
+
+-- Of a start call with any table, numbers and memory.
+pub record StartDemand1 (f : List ℕ) (rows depth : ℕ) (work : List ℕ) : Type 0 where
+  pub refused-exactly :
+      (i : ℕ) → i < 6 →
+      (outcomeNumber (startAnswer f rows depth work .outcome) ≡ i + 1) ↔ FirstAt (startLines f rows depth (length work)) i
+  pub taken-exactly :
+      (outcomeNumber (startAnswer f rows depth work .outcome) ≡ 0) ↔ ((i : ℕ) → appliesAt (startLines f rows depth (length work)) i ≡ false)
+  pub answered : outcomeNumber (startAnswer f rows depth work .outcome) < 7
+  -- Refused, it gives a record of zeros and leaves memory as it was.
+  pub kept :
+      0 < outcomeNumber (startAnswer f rows depth work .outcome) →
+      (startAnswer f rows depth work .next ≡ noRecord) × (startWork f rows depth work ≡ work)
+
+---------------------------------------------------------------- demand 2
+
+-- Of a taken event call, whoever made the record and the memory: it leads to the state that the rules name.
+pub record StepDemand2 (f : List ℕ) (r : Record) (work reports : List ℕ) (byte : ℕ) : Type 0 where
+  -- Memory is the words of the rows that it stands for, and nothing else.
+  pub stands : work ≡ workWords (r .rows) (r .allowed) (memoryOf r work)
+  -- Those rows are stepped: the record, every word of memory, the reports and their number afterwards.
+  pub next : eventAnswer f r work reports byte .next ≡ eventAfter f r work byte .next
+  pub memory : eventWork f r work reports byte ≡ eventAfter f r work byte .work
+  pub told : eventReports f r work reports byte ≡ onFront (eventAfter f r work byte .reports) reports
+  pub counted : countOf (eventAnswer f r work reports byte .outcome) ≡ length (eventAfter f r work byte .reports)
+
+-- Of a watch with so many rows and levels allowed.
+pub record Demand2 (f : List ℕ) (rows depth : ℕ) (s : Watching) : Type 0 where
+  -- A stream whose end was taken is whole: each position is reported once, selected exactly if the query selects it there.
+  pub whole : s .stream .ended ≡ true → Whole (tableOf f) (s .stream .events)
+  pub once : s .stream .ended ≡ true → (i : ℕ) → Read (s .stream) i → times i (joined (s .reports)) ≡ 1
+  pub selected :
+      s .stream .ended ≡ true → (i : ℕ) → Read (s .stream) i →
+      In (selectedWord i) (joined (s .reports)) ↔ Selects (tableOf f) i (s .stream .events)
+  pub failed :
+      s .stream .ended ≡ true → (i : ℕ) → Read (s .stream) i →
+      In (failedWord i) (joined (s .reports)) ↔ (¬ Selects (tableOf f) i (s .stream .events))
+  -- Never is a position reported that was not read, or one twice.
+  pub no-other : (i : ℕ) → ¬ Read (s .stream) i → times i (joined (s .reports)) ≡ 0
+  pub never-twice : (i : ℕ) → times i (joined (s .reports)) < 2
+  -- The record's numbers are those of the events taken.
+  pub depth-is : Prefix (tableOf f) (s .stream .events) (s .now .depth)
+  pub positions-is : s .now .positions ≡ positions (s .stream .events)
+  pub alive-is : (alive : List ℕ) → AliveAre (tableOf f) (s .stream) alive → s .now .alive ≡ length alive
+  pub finished-is : s .now .finished ≡ s .stream .ended
+  pub room-is : (s .now .rows ≡ rows) × (s .now .allowed ≡ depth)
+  -- Every word of memory is that of the rows built from the start; after the end every word is 0.
+  pub memory-is : s .stream .ended ≡ false → s .work ≡ workWords rows depth (memoryAfter (tableOf f) (s .stream .events))
+  pub memory-after-end : s .stream .ended ≡ true → s .work ≡ replicate (workLength rows depth) 0
+
+---------------------------------------------------------------- demand 3
+
+-- Of a watch and its next call, where that is taken.
+pub record Demand3 (f : List ℕ) (s : Watching) (c : Call) : Type 0 where
+  -- A position is reported selected exactly if it is certain after the event and waited to be decided; failed, ruled out.
+  pub selected :
+      (i : ℕ) → In (selectedWord i) (given f s c)
+      ↔ (Pending (tableOf f) (s .stream) (called f s c .stream) i × CertainIn (tableOf f) (called f s c .stream) i)
+  pub failed :
+      (i : ℕ) → In (failedWord i) (given f s c)
+      ↔ (Pending (tableOf f) (s .stream) (called f s c .stream) i × RuledOutIn (tableOf f) (called f s c .stream) i)
+  pub ascending : Rising (positions (called f s c .stream .events)) 0 (map positionOf (given f s c))
+
+-- Of a watch.
+pub record StandingDemand3 (f : List ℕ) (s : Watching) : Type 0 where
+  -- The rows are exactly the alive positions, ascending, each with the row of its own marked run.
+  pub rows-are-alive : AliveAre (tableOf f) (s .stream) (positionsOf (memoryOf (s .now) (s .work) .alive))
+  pub rows-are-theirs :
+      (h : Held) → In h (memoryOf (s .now) (s .work) .alive) → h ≡ heldAfter (tableOf f) (s .stream .events) (h .position)
+  -- A decided position is never in a row.
+  pub decided-in-no-row :
+      (i : ℕ) → CertainIn (tableOf f) (s .stream) i ⊎ RuledOutIn (tableOf f) (s .stream) i →
+      ¬ In i (positionsOf (memoryOf (s .now) (s .work) .alive))
+  -- A position that was read is alive, or has been reported with the verdict that all completions left have.
+  pub reported-selected :
+      (i : ℕ) → In (selectedWord i) (joined (s .reports)) ↔ (Read (s .stream) i × CertainIn (tableOf f) (s .stream) i)
+  pub reported-failed :
+      (i : ℕ) → In (failedWord i) (joined (s .reports)) ↔ (Read (s .stream) i × RuledOutIn (tableOf f) (s .stream) i)
+  -- No report is overturned, whatever further calls there are.
+  pub never-overturned :
+      (i : ℕ) (further : List Call) →
+      (In (selectedWord i) (joined (s .reports)) → CertainIn (tableOf f) (calledAll f s further .stream) i)
+      × (In (failedWord i) (joined (s .reports)) → RuledOutIn (tableOf f) (calledAll f s further .stream) i)
+  -- The end decides all that are left.
+  pub end-decides :
+      s .stream .ended ≡ true → (i : ℕ) → Read (s .stream) i →
+      CertainIn (tableOf f) (s .stream) i ⊎ RuledOutIn (tableOf f) (s .stream) i
+
+---------------------------------------------------------------- want of rows
+
+-- Where no earlier refusal applies, 15 is given exactly if more positions would be alive after the event than rows.
+abbrev pub WantOfRows : List ℕ → Watching → Call → Type 0
+WantOfRows f s c =
+    ((i : ℕ) → i < 14 → appliesAt (lines f (s .now) (s .work) (length (c .lent)) (meaningOf (c .byte))) i ≡ false) →
+    (alive : List ℕ) → AliveAre (tableOf f) (longer (s .stream) (meaningOf (c .byte))) alive →
+    (outcomeNumber (outcomeOf f s c) ≡ 15) ↔ (s .now .rows < length alive)

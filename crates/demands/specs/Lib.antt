@@ -1,0 +1,4 @@
+pub mod Watching
+pub mod Deciding
+pub mod Room
+pub mod Demands

@@ -1,0 +1,11 @@
+pub mod Lists
+pub mod Stays
+pub mod Rows
+pub mod Decided
+pub mod Follows
+pub mod Words
+pub mod Exactly
+pub mod Held
+pub mod Reported
+pub mod Ends
+pub mod Ordered
