@@ -10,13 +10,13 @@ use Rattle.places.specs.Places.{selectingAt, rejectingAt, workLength}
 use Rattle.answers.specs.declared.Outcome.{Outcome}
 use Rattle.answers.specs.declared.Outcome.the-variants.{Taken, Refused}
 use Rattle.answers.specs.Answers.{refusalNumber}
-use Rattle.demands.specs.Watching.{Call, Watching, begun, Started, outcomeOf, given, called}
+use Rattle.demands.specs.Watching.{Call, Told, toldAll, begun, Started}
 use Rattle.cases.specs.Tables.{tableW, tableL}
 
--- What a caller is told of an event: the words reported, or the number of the refusal.
-pub data Told : Type 0 where
-  reports : List ℕ → Told
-  refused : ℕ → Told
+-- What a caller is told of an event, in 01's numbers: the words reported, or the number of the refusal.
+pub data Shown : Type 0 where
+  reports : List ℕ → Shown
+  refused : ℕ → Shown
 
 pub data Claim : Type 0 where
   -- T is the set of these states.
@@ -28,7 +28,7 @@ pub data Claim : Type 0 where
   -- down(q,x), and its mask.
   DownIs : List ℕ → ℕ → ℕ → ℕ → Claim
   -- With so many rows and levels: the bytes, and what is told of each.
-  Tells : List ℕ → ℕ → ℕ → List ℕ → List Told → Claim
+  Tells : List ℕ → ℕ → ℕ → List ℕ → List Shown → Claim
 
 pub record Case : Type 0 where
   pub number : ℕ
@@ -49,13 +49,14 @@ before rows depth = replicate (workLength rows depth) 7
 abbrev pub calling : ℕ → ℕ → Call
 calling rows byte = record { byte = byte; lent = replicate (rows + 1) 9 }
 
-abbrev pub toldOf : Outcome → List ℕ → Told
-toldOf (Taken count) words = reports words
-toldOf (Refused why) words = refused (refusalNumber why)
+abbrev pub shown : Outcome → List ℕ → Shown
+shown (Taken count) words = reports words
+shown (Refused why) words = refused (refusalNumber why)
 
-abbrev pub told : List ℕ → Watching → List Call → List Told
-told f s [] = []
-told f s (c ∷ cs) = toldOf (outcomeOf f s c) (given f s c) ∷ told f (called f s c) cs
+-- What is told of each byte, from a taken start on.
+abbrev pub showing : List ℕ → ℕ → ℕ → List ℕ → List Shown
+showing f rows depth bytes =
+    map (λ (x : Told). shown (x .outcome) (x .words)) (toldAll f (begun f rows depth (before rows depth)) (map (calling rows) bytes))
 
 abbrev pub Says : Claim → Type 0
 Says (TreesAre f states) = treesOf (tableOf f) ≡ maskOf states
@@ -64,9 +65,7 @@ Says (StartSets f selecting rejecting) =
     let s = begun f 1 1 (before 1 1) in
     Started f 1 1 (before 1 1) × (getD (s .work) (selectingAt 0) 0 ≡ selecting) × (getD (s .work) (rejectingAt 0) 0 ≡ rejecting)
 Says (DownIs f q x mask) = downOf (tableOf f) (accsOf (tableOf f)) q x ≡ mask
-Says (Tells f rows depth bytes tolds) =
-    Started f rows depth (before rows depth)
-    × (told f (begun f rows depth (before rows depth)) (map (calling rows) bytes) ≡ tolds)
+Says (Tells f rows depth bytes told) = Started f rows depth (before rows depth) × (showing f rows depth bytes ≡ told)
 
 -- Of every member of a list.
 abbrev pub All : {A : Type 0} → (A → Type 0) → List A → Type 0

@@ -6,12 +6,12 @@ use mathlib.Core.Path.{_≡_, refl, sym, ap, _∙_, subst}
 use Prim.Native.Nat.{ℕ, zero, suc, _+_, _-_, _<_, _≤_}
 use native.Mathlib.Numerals.{add-one}
 use native.Mathlib.Omega.{arith}
-use borrow.Author.Tests.{ltb-false}
+use borrow.Author.Tests.{ltb-false, not-false}
 use lib.Dec.{ltb}
-use lib.ListN.{length, replicate}
+use lib.ListN.{length, replicate, length-replicate}
 use Rattle.meaning.specs.Table.{Table, WellFormed, tableOf}
 use Rattle.meaning.specs.Masks.{accsOf}
-use Rattle.meaning.specs.Refusals.{firstOf}
+use Rattle.meaning.specs.Refusals.{firstOf, appliesAt}
 use Rattle.meaning.specs.Streams as stream
 use Rattle.meaning.specs.Streams.{positions, Reads, Prefix}
 use Rattle.meaning.proofs.Refusals.{none-taken}
@@ -31,7 +31,7 @@ use Rattle.answers.specs.Answers.{outcomeNumber}
 use Rattle.answers.specs.Record.{noRecord, withAlive, finishedOf}
 use Rattle.judge.specs.declared.Judged.{Judged}
 use Rattle.judge.specs.declared.Judged.the-variants.{Fine, Refused}
-use Rattle.judge.specs.Judging.{judgedNumber, judgedLines, startLines}
+use Rattle.judge.specs.Judging.{judgedNumber, tableLines, sizesRight, judgedLines, startLines}
 use Rattle.judge.proofs.Passed.{EventPassed, passed, event-passed, start-passed}
 use Rattle.engine.specs.Calls.{After, stepRecord, memoryOf, stepped, taking, answerOf, unless, eventAnswer, startJudged, startAfter}
 use Rattle.engine.proofs.Numbers.{event-taken, start-taken}
@@ -41,6 +41,7 @@ use Rattle.following.proofs.Stays.{positions-append}
 use Rattle.following.proofs.Follows.{follows}
 use Rattle.following.proofs.Held.{memory-good}
 use Rattle.demands.specs.Watching.{Call, Stream, Watching, longer, begun, Started, called, calledAll, watching}
+use Rattle.demands.proofs.Lines.{front-applies}
 use Rattle.demands.proofs.Taking.{early-judged, taken-answer, having, judgedOf, afterOf, refused-call, taken-call}
 
 -- The record and the memory of a watch that has taken w, with d levels open, and after its end.
@@ -56,6 +57,8 @@ workAt t rows depth w true = replicate (workLength rows depth) 0
 
 pub record Follows (f : List ℕ) (rows depth : ℕ) (s : Watching) : Type 0 where
   pub formed : WellFormed (tableOf f)
+  pub file-right : (i : ℕ) → i < 5 → appliesAt (tableLines f) i ≡ false
+  pub sized : sizesRight rows depth (workLength rows depth) ≡ true
   pub few-levels : depth ≤ 40
   pub levels : ℕ
   pub reads : Prefix (tableOf f) (s .stream .events) levels
@@ -70,10 +73,13 @@ pub record Follows (f : List ℕ) (rows depth : ℕ) (s : Watching) : Type 0 whe
 
 pub follows-start : (f : List ℕ) (rows depth : ℕ) (work : List ℕ) → Started f rows depth work → Follows f rows depth (begun f rows depth work)
 follows-start f rows depth work h =
-    let fine : startJudged f rows depth work ≡ Fine = none-taken judgedNumber Fine (startLines f rows depth (length work)) (start-taken f rows depth work .0 h) in
+    let none = start-taken f rows depth work .0 h in
+    let fine : startJudged f rows depth work ≡ Fine = none-taken judgedNumber Fine (startLines f rows depth (length work)) none in
     let p = start-passed f rows depth (length work) fine in
     record {
       formed = p .sound .formed;
+      file-right = λ i l. sym (front-applies (tableLines f) _ i l) ∙ none i;
+      sized = subst (λ n. sizesRight rows depth n ≡ true) (p .size-is) (not-false (sizesRight rows depth (length work)) (none 5));
       few-levels = p .few-levels;
       levels = 0;
       reads = Reads.none;
@@ -111,7 +117,7 @@ taking-event t r work (stream.Open a) = refl
 taking-event t r work (stream.Point a) = refl
 taking-event t r work stream.Close = refl
 
-longer-event : (s : Stream) (e : stream.Event) → longer s (byteOf e) ≡ record { events = s .events ++ (e ∷ []); ended = s .ended }
+pub longer-event : (s : Stream) (e : stream.Event) → longer s (byteOf e) ≡ record { events = s .events ++ (e ∷ []); ended = s .ended }
 longer-event s (stream.Open a) = refl
 longer-event s (stream.Point a) = refl
 longer-event s stream.Close = refl
@@ -139,7 +145,7 @@ record-on rows depth d alive p (stream.Open a) = refl
 record-on rows depth d alive p (stream.Point a) = refl
 record-on rows depth d alive p stream.Close = ap (λ (x : ℕ). record { rows = rows; allowed = depth; depth = d - 1; alive = alive; positions = x; finished = false }) (omega arith)
 
-module _ (f : List ℕ) (rows depth : ℕ) (s : Watching) (follow : Follows f rows depth s) (c : Call) where
+module _ (f : List ℕ) (rows depth : ℕ) (s : Watching) (follow : Follows f rows depth s) where
   abbrev t : Table
   t = tableOf f
 
@@ -155,6 +161,32 @@ module _ (f : List ℕ) (rows depth : ℕ) (s : Watching) (follow : Follows f ro
       ∙ ap (memoryOf (recordAt t rows depth (follow .levels) w false)) work
       ∙ memory-back (t .states) rows depth (follow .levels) (memoryAfter t w) (follow .few-levels) (follow .deep) (follow .room) (memory-good t (follow .formed) (follow .reads))
 
+  -- The numbers of the record that are the same before the end and after it.
+  pub numbers-now : (s .now .rows ≡ rows) × (s .now .allowed ≡ depth) × (s .now .positions ≡ positions (s .stream .events)) × (s .now .finished ≡ s .stream .ended)
+  numbers-now =
+      let n = at (s .stream .ended) in (
+        ap (λ (r : Record). r .rows) (follow .now-is) ∙ n .0,
+        ap (λ (r : Record). r .allowed) (follow .now-is) ∙ n .1,
+        ap (λ (r : Record). r .positions) (follow .now-is) ∙ n .2,
+        ap (λ (r : Record). r .finished) (follow .now-is) ∙ n .3,
+      )
+    where
+      at : (b : Bool) →
+          let r = recordAt (tableOf f) rows depth (follow .levels) (s .stream .events) b in
+          (r .rows ≡ rows) × (r .allowed ≡ depth) × (r .positions ≡ positions (s .stream .events)) × (r .finished ≡ b)
+      at false = (refl, refl, refl, refl)
+      at true = (refl, refl, refl, refl)
+
+  -- Memory is as long as it is to be.
+  pub work-long : length (s .work) ≡ workLength rows depth
+  work-long = ap length (follow .work-is) ∙ go (s .stream .ended)
+    where
+      go : (b : Bool) → length (workAt (tableOf f) rows depth (s .stream .events) b) ≡ workLength rows depth
+      go false =
+          work-length (tableOf f .states) rows depth (follow .levels) (memoryAfter (tableOf f) (s .stream .events)) (follow .few-levels) (follow .deep) (follow .room)
+          (memory-good (tableOf f) (follow .formed) (follow .reads))
+      go true = length-replicate (workLength rows depth) 0
+
   -- The stream with one event more.
   abbrev next : stream.Event → List stream.Event
   next e = w ++ (e ∷ [])
@@ -166,153 +198,155 @@ module _ (f : List ℕ) (rows depth : ℕ) (s : Watching) (follow : Follows f ro
   abbrev pub endReported : List ℕ
   endReported = endReports t (memoryAfter t w .alive)
 
-  -- None of 1 to 14 applies.
-  abbrev pub Early : Type 0
-  Early = firstOf (judgedLines f (s .now) (s .work) (length (c .lent)) (meaningOf (c .byte))) Fine ≡ Fine
+  module _ (c : Call) where
+    -- None of 1 to 14 applies.
+    abbrev pub Early : Type 0
+    Early = firstOf (judgedLines f (s .now) (s .work) (length (c .lent)) (meaningOf (c .byte))) Fine ≡ Fine
 
-  pub early : judgedOf f s c ≡ Fine → Early
-  early fine = early-judged f (s .now) (s .work) (c .lent) (c .byte) fine
+    pub early : judgedOf f s c ≡ Fine → Early
+    early fine = early-judged f (s .now) (s .work) (c .lent) (c .byte) fine
 
-  module _ (free : Early) where
-    -- Then the end was not taken before.
-    pub going-on : s .stream .ended ≡ false
-    going-on = go (s .stream .ended) (follow .now-is)
-      where
-        go : (b : Bool) → s .now ≡ recordAt t rows depth (follow .levels) w b → b ≡ false
-        go false e = refl
-        go true e =
-            absurd (true≢false (sym (ap (λ (r : Record). r .finished) e) ∙ passed f (s .work) (s .now) (length (c .lent)) (meaningOf (c .byte)) free .going-on))
+    module _ (free : Early) where
+      -- Then the end was not taken before.
+      pub going-on : s .stream .ended ≡ false
+      going-on = go (s .stream .ended) (follow .now-is)
+        where
+          go : (b : Bool) → s .now ≡ recordAt t rows depth (follow .levels) w b → b ≡ false
+          go false e = refl
+          go true e =
+              absurd (true≢false (sym (ap (λ (r : Record). r .finished) e) ∙ passed f (s .work) (s .now) (length (c .lent)) (meaningOf (c .byte)) free .going-on))
 
-    abbrev before : Record
-    before = recordAt t rows depth (follow .levels) w false
+      abbrev before : Record
+      before = recordAt t rows depth (follow .levels) w false
 
-    now-before : s .now ≡ before
-    now-before = follow .now-is ∙ ap (recordAt t rows depth (follow .levels) w) going-on
+      now-before : s .now ≡ before
+      now-before = follow .now-is ∙ ap (recordAt t rows depth (follow .levels) w) going-on
 
-    passed-as : (e : Event) → meaningOf (c .byte) ≡ e → EventPassed (labelsIn f) before e
-    passed-as e is =
-        subst (λ (r : Record). EventPassed (labelsIn f) r e) now-before
-        (subst (EventPassed (labelsIn f) (s .now)) is
-        (event-passed f (s .work) (s .now) (length (c .lent)) (meaningOf (c .byte)) free))
+      pub passed-as : (e : Event) → meaningOf (c .byte) ≡ e → EventPassed (labelsIn f) before e
+      passed-as e is =
+          subst (λ (r : Record). EventPassed (labelsIn f) r e) now-before
+          (subst (EventPassed (labelsIn f) (s .now)) is
+          (event-passed f (s .work) (s .now) (length (c .lent)) (meaningOf (c .byte)) free))
 
-    -- An open, point or close.
-    module _ (e : stream.Event) (is : meaningOf (c .byte) ≡ byteOf e) where
-      pub can-read : Readable (t .labels) before e
-      can-read = readable (t .labels) before e (passed-as (byteOf e) is) (follow .deep) (follow .numbered)
+      -- An open, point or close.
+      module _ (e : stream.Event) (is : meaningOf (c .byte) ≡ byteOf e) where
+        pub can-read : Readable (t .labels) before e
+        can-read = readable (t .labels) before e (passed-as (byteOf e) is) (follow .deep) (follow .numbered)
 
-      -- A step from rows that are held.
-      abbrev from : Record → Memory → After
-      from r m =
-          record {
-            next = withAlive (length (leftMemory (stepMemory t (accsOf t) e (r .positions) m) .alive)) (stepRecord e r);
-            work = workWords (r .rows) (r .allowed) (leftMemory (stepMemory t (accsOf t) e (r .positions) m));
-            reports = reportsOf (stepMemory t (accsOf t) e (r .positions) m .alive);
-          }
+        -- A step from rows that are held.
+        abbrev from : Record → Memory → After
+        from r m =
+            record {
+              next = withAlive (length (leftMemory (stepMemory t (accsOf t) e (r .positions) m) .alive)) (stepRecord e r);
+              work = workWords (r .rows) (r .allowed) (leftMemory (stepMemory t (accsOf t) e (r .positions) m));
+              reports = reportsOf (stepMemory t (accsOf t) e (r .positions) m .alive);
+            }
 
-      pub after-event : afterOf f s c ≡ record {
-        next = recordAt t rows depth (depthAfter e (follow .levels)) (next e) false;
-        work = workAt t rows depth (next e) false;
-        reports = reported e;
-      }
-      after-event =
-          ap (taking t (s .now) (s .work)) is
-          ∙ taking-event t (s .now) (s .work) e
-          ∙ ap (from (s .now)) (memory-now going-on)
-          ∙ ap (λ (r : Record). from r (memoryAfter t w)) now-before
-          ∙ ap (λ (m : Memory). record { next = withAlive (length (m .alive)) (stepRecord e before); work = workWords rows depth m; reports = reported e })
-          (follows t (follow .formed) e (follow .reads) (can-read .reads-on))
-          ∙ ap (λ (r : Record). record { next = withAlive (length (memoryAfter t (next e) .alive)) r; work = workWords rows depth (memoryAfter t (next e)); reports = reported e })
-          (record-on rows depth (follow .levels) (length (memoryAfter t w .alive)) (positions w) e)
-          ∙ ap (λ (p : ℕ). record {
-            next = record { rows = rows; allowed = depth; depth = depthAfter e (follow .levels); alive = length (memoryAfter t (next e) .alive); positions = p; finished = false };
-            work = workWords rows depth (memoryAfter t (next e));
-            reports = reported e;
-          })
-          (sym (positions-append w (e ∷ [])))
+        pub after-event : afterOf f s c ≡ record {
+          next = recordAt t rows depth (depthAfter e (follow .levels)) (next e) false;
+          work = workAt t rows depth (next e) false;
+          reports = reported e;
+        }
+        after-event =
+            ap (taking t (s .now) (s .work)) is
+            ∙ taking-event t (s .now) (s .work) e
+            ∙ ap (from (s .now)) (memory-now going-on)
+            ∙ ap (λ (r : Record). from r (memoryAfter t w)) now-before
+            ∙ ap (λ (m : Memory). record { next = withAlive (length (m .alive)) (stepRecord e before); work = workWords rows depth m; reports = reported e })
+            (follows t (follow .formed) e (follow .reads) (can-read .reads-on))
+            ∙ ap (λ (r : Record). record { next = withAlive (length (memoryAfter t (next e) .alive)) r; work = workWords rows depth (memoryAfter t (next e)); reports = reported e })
+            (record-on rows depth (follow .levels) (length (memoryAfter t w .alive)) (positions w) e)
+            ∙ ap (λ (p : ℕ). record {
+              next = record { rows = rows; allowed = depth; depth = depthAfter e (follow .levels); alive = length (memoryAfter t (next e) .alive); positions = p; finished = false };
+              work = workWords rows depth (memoryAfter t (next e));
+              reports = reported e;
+            })
+            (sym (positions-append w (e ∷ [])))
 
-    -- The end.
-    module _ (is : meaningOf (c .byte) ≡ End) where
-      all-closed : follow .levels ≡ 0
-      all-closed = passed-as End is
+      -- The end.
+      module _ (is : meaningOf (c .byte) ≡ End) where
+        pub all-closed : follow .levels ≡ 0
+        all-closed = passed-as End is
 
-      pub after-end : afterOf f s c ≡ record { next = recordAt t rows depth 0 w true; work = workAt t rows depth w true; reports = endReported }
-      after-end =
-          let long : length (s .work) ≡ workLength rows depth =
-          ap length (follow .work-is ∙ ap (workAt t rows depth w) going-on)
-          ∙ work-length (t .states) rows depth (follow .levels) (memoryAfter t w) (follow .few-levels) (follow .deep) (follow .room) (memory-good t (follow .formed) (follow .reads)) in
-          ap (taking t (s .now) (s .work)) is
-          ∙ ap (λ (m : Memory). record { next = finishedOf (s .now); work = replicate (length (s .work)) 0; reports = endReports t (m .alive) }) (memory-now going-on)
-          ∙ ap (λ (r : Record). record { next = finishedOf r; work = replicate (length (s .work)) 0; reports = endReported }) now-before
-          ∙ ap (λ (n : ℕ). record { next = recordAt t rows depth 0 w true; work = replicate n 0; reports = endReported }) long
+        pub after-end : afterOf f s c ≡ record { next = recordAt t rows depth 0 w true; work = workAt t rows depth w true; reports = endReported }
+        after-end =
+            ap (taking t (s .now) (s .work)) is
+            ∙ ap (λ (m : Memory). record { next = finishedOf (s .now); work = replicate (length (s .work)) 0; reports = endReports t (m .alive) }) (memory-now going-on)
+            ∙ ap (λ (r : Record). record { next = finishedOf r; work = replicate (length (s .work)) 0; reports = endReported }) now-before
+            ∙ ap (λ (n : ℕ). record { next = recordAt t rows depth 0 w true; work = replicate n 0; reports = endReported }) work-long
 
-  -- The call is taken: what the caller then has.
-  module _ (fine : judgedOf f s c ≡ Fine) where
-    module _ (e : stream.Event) (is : meaningOf (c .byte) ≡ byteOf e) where
-      pub called-event : called f s c ≡ record {
-        stream = record { events = next e; ended = false };
-        now = recordAt t rows depth (depthAfter e (follow .levels)) (next e) false;
-        work = workAt t rows depth (next e) false;
-        reports = s .reports ++ (reported e ∷ []);
-      }
-      called-event =
-          taken-call f s c fine
-          ∙ ap (λ (x : Event). having s (longer (s .stream) x) (afterOf f s c)) is
-          ∙ ap (λ (x : Stream). having s x (afterOf f s c)) (longer-event (s .stream) e)
-          ∙ ap (λ (b : Bool). having s (record { events = next e; ended = b }) (afterOf f s c)) (going-on (early fine))
-          ∙ ap (having s (record { events = next e; ended = false })) (after-event (early fine) e is)
+    -- The call is taken: what the caller then has.
+    module _ (fine : judgedOf f s c ≡ Fine) where
+      module _ (e : stream.Event) (is : meaningOf (c .byte) ≡ byteOf e) where
+        pub called-event : called f s c ≡ record {
+          stream = record { events = next e; ended = false };
+          now = recordAt t rows depth (depthAfter e (follow .levels)) (next e) false;
+          work = workAt t rows depth (next e) false;
+          reports = s .reports ++ (reported e ∷ []);
+        }
+        called-event =
+            taken-call f s c fine
+            ∙ ap (λ (x : Event). having s (longer (s .stream) x) (afterOf f s c)) is
+            ∙ ap (λ (x : Stream). having s x (afterOf f s c)) (longer-event (s .stream) e)
+            ∙ ap (λ (b : Bool). having s (record { events = next e; ended = b }) (afterOf f s c)) (going-on (early fine))
+            ∙ ap (having s (record { events = next e; ended = false })) (after-event (early fine) e is)
 
-      -- 15 did not apply.
-      fits : length (memoryAfter t (next e) .alive) ≤ rows
-      fits =
-          let taken : outcomeNumber (eventAnswer f (s .now) (s .work) (c .lent) (c .byte) .outcome) ≡ 0 = ap (λ (x : Answer). outcomeNumber (x .outcome)) (taken-answer f (s .now) (s .work) (c .lent) (c .byte) fine) in
-          let some : afterOf f s c .next .alive ≤ s .now .rows = ltb-false (s .now .rows) (afterOf f s c .next .alive) (event-taken f (s .now) (s .work) (c .lent) (c .byte) .0 taken 14) in
-          let alive : afterOf f s c .next .alive ≡ length (memoryAfter t (next e) .alive) = ap (λ (a : After). a .next .alive) (after-event (early fine) e is) in
-          let all : s .now .rows ≡ rows = ap (λ (r : Record). r .rows) (now-before (early fine)) in
-          omega (arith, some, alive, all)
+        -- 15 did not apply.
+        fits : length (memoryAfter t (next e) .alive) ≤ rows
+        fits =
+            let taken : outcomeNumber (eventAnswer f (s .now) (s .work) (c .lent) (c .byte) .outcome) ≡ 0 = ap (λ (x : Answer). outcomeNumber (x .outcome)) (taken-answer f (s .now) (s .work) (c .lent) (c .byte) fine) in
+            let some : afterOf f s c .next .alive ≤ s .now .rows = ltb-false (s .now .rows) (afterOf f s c .next .alive) (event-taken f (s .now) (s .work) (c .lent) (c .byte) .0 taken 14) in
+            let alive : afterOf f s c .next .alive ≡ length (memoryAfter t (next e) .alive) = ap (λ (a : After). a .next .alive) (after-event (early fine) e is) in
+            let all : s .now .rows ≡ rows = ap (λ (r : Record). r .rows) (now-before (early fine)) in
+            omega (arith, some, alive, all)
 
-      follows-event : Follows f rows depth (called f s c)
-      follows-event =
-          subst (Follows f rows depth) (sym called-event)
-          (record {
-            formed = follow .formed;
-            few-levels = follow .few-levels;
-            levels = depthAfter e (follow .levels);
-            reads = reads-join (follow .reads) (can-read (early fine) e is .reads-on);
-            deep = can-read (early fine) e is .still-deep;
-            room = fits;
-            numbered = omega (arith, can-read (early fine) e is .still-numbered, positions-append w (e ∷ []));
-            closed = λ b. absurd (true≢false (sym b));
-            now-is = refl;
-            work-is = refl;
-          })
+        follows-event : Follows f rows depth (called f s c)
+        follows-event =
+            subst (Follows f rows depth) (sym called-event)
+            (record {
+              formed = follow .formed;
+              file-right = follow .file-right;
+              sized = follow .sized;
+              few-levels = follow .few-levels;
+              levels = depthAfter e (follow .levels);
+              reads = reads-join (follow .reads) (can-read (early fine) e is .reads-on);
+              deep = can-read (early fine) e is .still-deep;
+              room = fits;
+              numbered = omega (arith, can-read (early fine) e is .still-numbered, positions-append w (e ∷ []));
+              closed = λ b. absurd (true≢false (sym b));
+              now-is = refl;
+              work-is = refl;
+            })
 
-    module _ (is : meaningOf (c .byte) ≡ End) where
-      pub called-end : called f s c ≡ record {
-        stream = record { events = w; ended = true };
-        now = recordAt t rows depth 0 w true;
-        work = workAt t rows depth w true;
-        reports = s .reports ++ (endReported ∷ []);
-      }
-      called-end =
-          taken-call f s c fine
-          ∙ ap (λ (x : Event). having s (longer (s .stream) x) (afterOf f s c)) is
-          ∙ ap (having s (record { events = w; ended = true })) (after-end (early fine) is)
+      module _ (is : meaningOf (c .byte) ≡ End) where
+        pub called-end : called f s c ≡ record {
+          stream = record { events = w; ended = true };
+          now = recordAt t rows depth 0 w true;
+          work = workAt t rows depth w true;
+          reports = s .reports ++ (endReported ∷ []);
+        }
+        called-end =
+            taken-call f s c fine
+            ∙ ap (λ (x : Event). having s (longer (s .stream) x) (afterOf f s c)) is
+            ∙ ap (having s (record { events = w; ended = true })) (after-end (early fine) is)
 
-      follows-end : Follows f rows depth (called f s c)
-      follows-end =
-          subst (Follows f rows depth) (sym called-end)
-          (record {
-            formed = follow .formed;
-            few-levels = follow .few-levels;
-            levels = 0;
-            reads = subst (Prefix t w) (all-closed (early fine) is) (follow .reads);
-            deep = omega arith;
-            room = follow .room;
-            numbered = follow .numbered;
-            closed = λ b. refl;
-            now-is = refl;
-            work-is = refl;
-          })
+        follows-end : Follows f rows depth (called f s c)
+        follows-end =
+            subst (Follows f rows depth) (sym called-end)
+            (record {
+              formed = follow .formed;
+              file-right = follow .file-right;
+              sized = follow .sized;
+              few-levels = follow .few-levels;
+              levels = 0;
+              reads = subst (Prefix t w) (all-closed (early fine) is) (follow .reads);
+              deep = omega arith;
+              room = follow .room;
+              numbered = follow .numbered;
+              closed = λ b. refl;
+              now-is = refl;
+              work-is = refl;
+            })
 
 pub follows-call : (f : List ℕ) (rows depth : ℕ) (s : Watching) → Follows f rows depth s → (c : Call) → Follows f rows depth (called f s c)
 follows-call f rows depth s follow c = go (judgedOf f s c) refl

@@ -1,3 +1,12 @@
+pub mod Lines
 pub mod Demand1
 pub mod Taking
 pub mod Follows
+pub mod Handed
+pub mod OneEvent
+pub mod Alive
+pub mod SoFar
+pub mod Demand3
+pub mod Demand2
+pub mod WantOfRows
+pub mod MoreRoom

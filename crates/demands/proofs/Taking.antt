@@ -99,6 +99,9 @@ module _ (f : List ℕ) (s : Watching) (c : Call) where
   pub refused-call : (why : Refusal) → judgedOf ≡ Refused why → called f s c ≡ s
   refused-call why e = ap (λ j. calledBy j (given f s c)) e
 
+  pub none-given : (why : Refusal) → judgedOf ≡ Refused why → given f s c ≡ []
+  none-given why e = ap (λ j. take (countOf (answerOf j (s .now) afterOf .outcome)) (eventReports f (s .now) (s .work) (c .lent) (c .byte))) e
+
   -- After a taken call the caller reads the reports of the step.
   pub given-is : judgedOf ≡ Fine → given f s c ≡ afterOf .reports
   given-is e =

@@ -8,6 +8,7 @@ use mathlib.Core.List.{List, [], _∷_, map}
 use mathlib.Core.Logic.{_↔_, _⊎_}
 use mathlib.Core.Path.{_≡_}
 use Prim.Native.Nat.{ℕ, _+_, _<_}
+use lib.Dec.{ltb}
 use lib.ListN.{length, replicate}
 use Rattle.meaning.specs.Table.{Table, tableOf}
 use Rattle.meaning.specs.Streams.{positions, Prefix, Whole, Selects}
@@ -134,6 +135,16 @@ pub record StandingDemand3 (f : List ℕ) (s : Watching) : Type 0 where
   pub end-decides :
       s .stream .ended ≡ true → (i : ℕ) → Read (s .stream) i →
       CertainIn (tableOf f) (s .stream) i ⊎ RuledOutIn (tableOf f) (s .stream) i
+
+---------------------------------------------------------------- handed back as received
+
+-- Of a watch with so many rows and its next call, the record and memory handed back as received: 1 to 5 and 7 never apply, 6 only to
+-- a slice for reports that is too short, and 8 exactly after the end.
+pub record Handed (f : List ℕ) (rows : ℕ) (s : Watching) (c : Call) : Type 0 where
+  pub file-right : (i : ℕ) → i < 5 → appliesAt (lines f (s .now) (s .work) (length (c .lent)) (meaningOf (c .byte))) i ≡ false
+  pub size-right : appliesAt (lines f (s .now) (s .work) (length (c .lent)) (meaningOf (c .byte))) 5 ≡ ltb (length (c .lent)) (rows + 1)
+  pub in-order : appliesAt (lines f (s .now) (s .work) (length (c .lent)) (meaningOf (c .byte))) 6 ≡ false
+  pub going-on : appliesAt (lines f (s .now) (s .work) (length (c .lent)) (meaningOf (c .byte))) 7 ≡ s .stream .ended
 
 ---------------------------------------------------------------- want of rows
 

@@ -93,10 +93,14 @@ abbrev pub calledAll : List ℕ → Watching → List Call → Watching
 calledAll f s [] = s
 calledAll f s (c ∷ cs) = calledAll f (called f s c) cs
 
--- What each call was answered.
-abbrev pub outcomes : List ℕ → Watching → List Call → List Outcome
-outcomes f s [] = []
-outcomes f s (c ∷ cs) = outcomeOf f s c ∷ outcomes f (called f s c) cs
+-- What a caller learns from a call: the outcome, and the reports that it reads.
+pub record Told : Type 0 where
+  pub outcome : Outcome
+  pub words : List ℕ
+
+abbrev pub toldAll : List ℕ → Watching → List Call → List Told
+toldAll f s [] = []
+toldAll f s (c ∷ cs) = record { outcome = outcomeOf f s c; words = given f s c } ∷ toldAll f (called f s c) cs
 
 -- The watched stream.
 abbrev pub watching : List ℕ → ℕ → ℕ → List ℕ → List Call → Watching

@@ -2,7 +2,7 @@
 -- nothing.
 use mathlib.Core.Path.{_≡_, refl, sym, ap, subst, _∙_}
 use mathlib.Core.List.{List, [], _∷_, _++_, map, map-map, map-id}
-use mathlib.Core.Logic.{_⊎_, inl, inr, ⊎-elim}
+use mathlib.Core.Logic.{_↔_, _⊎_, inl, inr, ⊎-elim}
 use Prim.Native.Nat.{ℕ, zero, suc, _+_, _<_, _≤_}
 use native.Mathlib.Nat.{lt-of-le-of-lt}
 use native.Mathlib.Omega.{arith}
@@ -136,3 +136,22 @@ times-once i (x ∷ xs) (Rising.over l m r) _ In.first e =
     rw (eq-eqb (positionOf x) i e) (omega (arith, times-none i xs (λ y h q. omega (arith, rising-in r (in-map positionOf h)))))
 times-once i (y ∷ xs) (Rising.over l m r) x (In.later h) e =
     rw (ne-eqb (positionOf y) i (λ q. omega (arith, rising-in r (in-map positionOf h)))) (omega (arith, times-once i xs r x h e))
+
+-- Numbers that rise are known by their members.
+pub rising-same : {high low : ℕ} {xs ys : List ℕ} → Rising high low xs → Rising high low ys → ((x : ℕ) → In x xs ↔ In x ys) → xs ≡ ys
+rising-same Rising.none Rising.none h = refl
+rising-same Rising.none (Rising.over {x = y} a b q) h = absurd (in-nil (h y .1 In.first))
+rising-same (Rising.over {x = x} a b p) Rising.none h = absurd (in-nil (h x .0 In.first))
+rising-same {high} (Rising.over {x = x} {xs = xs} a b p) (Rising.over {x = y} {xs = ys} c d q) h =
+    let e : x ≡ y = heads (in-head (h x .0 In.first)) (in-head (h y .1 In.first)) in
+    let q′ : Rising high x ys = subst (λ z. Rising high z ys) (sym e) q in
+    ap (λ z. z ∷ xs) e ∙ ap (λ zs. y ∷ zs) (rising-same p q′ (λ z. (λ m. rest e p m (in-head (h z .0 (In.later m))), λ m. rest (sym e) q m (in-head (h z .1 (In.later m))))))
+  where
+    heads : (x ≡ y) ⊎ In x ys → (y ≡ x) ⊎ In y xs → x ≡ y
+    heads (inl g) k = g
+    heads (inr g) (inl k) = sym k
+    heads (inr g) (inr k) = absurd (omega (arith, rising-in q g .0, rising-in p k .0))
+
+    rest : {u v z : ℕ} {us vs : List ℕ} → u ≡ v → Rising high u us → In z us → (z ≡ v) ⊎ In z vs → In z vs
+    rest g r m (inl k) = absurd (omega (arith, g, k, rising-in r m .0))
+    rest g r m (inr k) = k

@@ -1,0 +1,80 @@
+-- Want of rows: where none of 1 to 14 applies, 15 is given exactly if more positions would be alive after the event than there are
+-- rows. Assumes a watch that a taken start and any calls led to.
+use mathlib.Core.Bool.{Bool, true, false}
+use mathlib.Core.List.{List, [], _∷_, _++_}
+use mathlib.Core.Logic.{_↔_}
+use mathlib.Core.Path.{_≡_, refl, sym, ap, _∙_, subst}
+use Prim.Native.Nat.{ℕ, _<_, _≤_}
+use native.Mathlib.Decide.{decLe}
+use native.Mathlib.Omega.{arith}
+use borrow.Author.Tests.{ltb-true, lt-ltb}
+use lib.ListN.{length, length-map}
+use Rattle.meaning.specs.Table.{Table, tableOf}
+use Rattle.meaning.specs.Refusals.{appliesAt}
+use Rattle.meaning.specs.Streams as stream
+use Rattle.meaning.proofs.Refusals.{none-taken}
+use Rattle.meaning.proofs.Streams.{reads-join}
+use Rattle.places.specs.Memory.{Held}
+use Rattle.answers.specs.declared.Event.{Event}
+use Rattle.answers.specs.declared.Event.the-variants.{End, Unknown}
+use Rattle.answers.specs.Bytes.{meaningOf}
+use Rattle.answers.specs.Answers.{outcomeNumber}
+use Rattle.judge.specs.declared.Judged.the-variants.{Fine}
+use Rattle.judge.specs.Judging.{judgedNumber, judgedLines}
+use Rattle.engine.specs.Calls.{After, lines, rowsLines}
+use Rattle.engine.proofs.Numbers.{event-exactly}
+use Rattle.following.specs.Following.{memoryAfter, positionsOf}
+use Rattle.demands.specs.Watching.{Call, Stream, Watching, longer, Started, outcomeOf, watching}
+use Rattle.demands.specs.Deciding.{AliveAre}
+use Rattle.demands.specs.Demands.{WantOfRows}
+use Rattle.demands.proofs.Lines.{front-applies, past-applies}
+use Rattle.demands.proofs.Taking.{afterOf}
+use Rattle.demands.proofs.Follows.{Follows, Early, Kind, kind, byteOf, longer-event, going-on, passed-as, can-read, after-event, after-end, follows-watching}
+use Rattle.demands.proofs.OneEvent.{going, over}
+use Rattle.demands.proofs.Alive.{alive-going, alive-over, alive-same}
+
+module _ (f : List ℕ) (rows depth : ℕ) (s : Watching) (follow : Follows f rows depth s) (c : Call) where
+  early-free : ((i : ℕ) → i < 14 → appliesAt (lines f (s .now) (s .work) (length (c .lent)) (meaningOf (c .byte))) i ≡ false) → Early f rows depth s follow c
+  early-free h =
+      let early = judgedLines f (s .now) (s .work) (length (c .lent)) (meaningOf (c .byte)) in
+      none-taken judgedNumber Fine early (λ i. go i (decLe 14 i))
+    where
+      go : (i : ℕ) → Dec (14 ≤ i) → appliesAt (judgedLines f (s .now) (s .work) (length (c .lent)) (meaningOf (c .byte))) i ≡ false
+      go i (yes l) = past-applies (judgedLines f (s .now) (s .work) (length (c .lent)) (meaningOf (c .byte))) i l
+      go i (no l) =
+          sym (front-applies (judgedLines f (s .now) (s .work) (length (c .lent)) (meaningOf (c .byte))) (rowsLines (s .now) (afterOf f s c)) i (omega (arith, l))) ∙ h i (omega (arith, l))
+
+  -- The rows that the event would leave are the positions alive after it.
+  left-alive :
+      Early f rows depth s follow c → (alive : List ℕ) → AliveAre (tableOf f) (longer (s .stream) (meaningOf (c .byte))) alive →
+      afterOf f s c .next .alive ≡ length alive
+  left-alive free alive a = go (meaningOf (c .byte)) refl (kind (meaningOf (c .byte))) a
+    where
+      t : Table
+      t = tableOf f
+
+      go : (x : Event) → meaningOf (c .byte) ≡ x → Kind x → AliveAre (tableOf f) (longer (s .stream) x) alive → afterOf f s c .next .alive ≡ length alive
+      go x is (Kind.event e) b =
+          let w = s .stream .events ++ (e ∷ []) in
+          let held : List Held = memoryAfter (tableOf f) (s .stream .events ++ (e ∷ [])) .alive in
+          let on : longer (s .stream) (byteOf e) ≡ going (s .stream .events ++ (e ∷ [])) =
+          longer-event (s .stream) e ∙ ap (λ (y : Bool). record { events = s .stream .events ++ (e ∷ []); ended = y }) (going-on f rows depth s follow c free) in
+          let reads = reads-join (follow .reads) (can-read f rows depth s follow c free e is .reads-on) in
+          ap (λ (y : After). y .next .alive) (after-event f rows depth s follow c free e is)
+          ∙ sym (length-map held (λ (h : Held). h .position))
+          ∙ ap length (alive-same (tableOf f) (going w) (positionsOf held) alive (alive-going (tableOf f) (follow .formed) reads) (subst (λ (y : Stream). AliveAre (tableOf f) y alive) on b))
+      go x is Kind.end b =
+          ap (λ (y : After). y .next .alive) (after-end f rows depth s follow c free is)
+          ∙ ap length (alive-same (tableOf f) (over (s .stream .events)) [] alive (alive-over (tableOf f) (s .stream .events)) b)
+      go x is Kind.nothing b = absurd (passed-as f rows depth s follow c free Unknown is)
+
+  rows-wanted : WantOfRows f s c
+  rows-wanted h alive a =
+      let count = left-alive (early-free h) alive a in
+      let exactly = event-exactly f (s .now) (s .work) (c .lent) (c .byte) 14 (omega arith) in (
+        λ e. subst (λ n. s .now .rows < n) count (ltb-true _ _ (exactly .0 e .applies)),
+        λ l. exactly .1 (record { applies = lt-ltb _ _ (subst (λ n. s .now .rows < n) (sym count) l); none-before = h }),
+      )
+
+pub want-of-rows : (f : List ℕ) (rows depth : ℕ) (work : List ℕ) → Started f rows depth work → (cs : List Call) (c : Call) → WantOfRows f (watching f rows depth work cs) c
+want-of-rows f rows depth work started cs c = rows-wanted f rows depth (watching f rows depth work cs) (follows-watching f rows depth work started cs) c
