@@ -19,6 +19,7 @@ use Rattle.engine.specs.Calls.{After, lines, answerOf, eventJudged, eventAfter,
 use Rattle.engine.proofs.Numbers.{event-exactly, event-taken, refused-keeps, start-exactly, start-taken, start-refused-keeps}
 use Rattle.demands.specs.Watching.{countOf}
 use Rattle.demands.specs.Demands.{Demand1, StartDemand1}
+use Rattle.demands.proofs.FirstWrong.{place-is}
 
 -- Every number of a list is below k.
 abbrev below : ℕ → List ℕ → Bool
@@ -52,6 +53,7 @@ demand-1 f r work reports byte =
       refused-exactly = event-exactly f r work reports byte;
       taken-exactly = event-taken f r work reports byte;
       answered = answer-below 16 j r after (given-below 16 (lines f r work (length reports) (meaningOf byte)) tt);
+      place = place-is f r work reports byte;
       kept = λ h.
           let k = refused-keeps f r work reports byte h in
           (k .0, none-counted j r after h, k .1, k .2);

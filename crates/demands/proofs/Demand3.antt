@@ -22,7 +22,7 @@ use Rattle.following.specs.Following.{memoryAfter, heldAfter, positionsOf}
 use Rattle.following.proofs.Lists.{in-nil}
 use Rattle.following.proofs.Held.{held-is}
 use Rattle.demands.specs.Watching.{Call, Stream, Watching, Started, begun, outcomeOf, given, called, calledAll, watching, joined}
-use Rattle.demands.specs.Deciding.{Read, CertainIn, RuledOutIn, AliveIn, AliveAre}
+use Rattle.demands.specs.Deciding.{Read, CertainIn, RuledOutIn, AliveIn, Pending, AliveAre}
 use Rattle.demands.specs.Demands.{Demand3, StandingDemand3}
 use Rattle.demands.proofs.Taking.{taken-judged, judgedOf, given-is, refused-call, taken-call}
 use Rattle.demands.proofs.Follows.{Follows, Early, Kind, kind, recordAt, early, going-on, passed-as, can-read, all-closed, after-event, after-end, called-event, called-end, memory-now, follows-start, follows-call, follows-calls, follows-watching}
@@ -56,11 +56,6 @@ module _ (f : List ℕ) (rows depth : ℕ) (s : Watching) (follow : Follows f ro
           (given-is f s c fine ∙ ap (λ (a : After). a .reports) (after-end f rows depth s follow c free is))
           (goes-end (tableOf f) (follow .formed) (subst (λ (d : ℕ). stream.Prefix (tableOf f) (s .stream .events) d) (all-closed f rows depth s follow c free is) (follow .reads)))
       go x is Kind.nothing = absurd (passed-as f rows depth s follow c free Unknown is)
-
-  pub next-demand-3 : outcomeNumber (outcomeOf f s c) ≡ 0 → Demand3 f s c
-  next-demand-3 taken =
-      let g = goes-on (taken-judged f (s .now) (s .work) (c .lent) (c .byte) taken) in
-      record { selected = g .selected; failed = g .failed; ascending = g .ascending }
 
 ---------------------------------------------------------------- all reports so far
 
@@ -155,6 +150,21 @@ module _ (f : List ℕ) (rows depth : ℕ) (s : Watching) (follow : Follows f ro
           λ m. kept-by-calls f rows depth (λ x. RuledOutIn t x i) (λ b a words g. g .ruled-out-stays i) further s follow (far .failed i .0 m .1),
         );
         end-decides = λ e i r. decided-at (s .stream .ended) e i;
+      }
+
+module _ (f : List ℕ) (rows depth : ℕ) (s : Watching) (follow : Follows f rows depth s) (c : Call) where
+  pub next-demand-3 : outcomeNumber (outcomeOf f s c) ≡ 0 → Demand3 f s c
+  next-demand-3 taken =
+      let g = goes-on f rows depth s follow c (taken-judged f (s .now) (s .work) (c .lent) (c .byte) taken) in
+      let pending : (i : ℕ) → Read (s .stream) i → AliveIn (tableOf f) (s .stream) i → Pending (tableOf f) (s .stream) (called f s c .stream) i =
+      λ i r a. record { read = g .read-stays i r; undecided = λ x. a } in
+      record {
+        selected = g .selected;
+        failed = g .failed;
+        ascending = g .ascending;
+        end-reports-all = λ e i r a.
+            ⊎-elim (λ h. inl (g .selected i .1 (pending i r a, h))) (λ h. inr (g .failed i .1 (pending i r a, h)))
+            (decided-at f rows depth (called f s c) (follows-call f rows depth s follow c) (called f s c .stream .ended) e i);
       }
 
 ---------------------------------------------------------------- the demand

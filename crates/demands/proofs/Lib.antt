@@ -1,4 +1,5 @@
 pub mod Lines
+pub mod FirstWrong
 pub mod Demand1
 pub mod Taking
 pub mod Follows

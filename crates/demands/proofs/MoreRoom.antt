@@ -199,14 +199,14 @@ module _ (f : List ℕ) (rows depth rows′ depth′ : ℕ) (more-rows : rows �
         ap (λ j. answerOf j (s .now) (afterOf f s c) .outcome) e ∙ ap (λ (words : List ℕ). Taken (length words)) told ∙ sym (ap (λ j. answerOf j (s′ .now) (afterOf f s′ c′) .outcome) e′),
         given-is f s c e ∙ told ∙ sym (given-is f s′ c′ e′),
         after-both
-        (ap (λ (y : Watching). y .stream) x
-        ∙ ap (λ (y : Stream). longer y (meaningOf (c .byte))) (beside .same-stream)
-        ∙ ap (λ b. longer (s′ .stream) (meaningOf b)) byte-same
-        ∙ sym (ap (λ (y : Watching). y .stream) x′))
-        (ap (λ (y : Watching). y .reports) x
-        ∙ ap (λ rs. rs ++ (afterOf f s c .reports ∷ [])) (beside .same-told)
-        ∙ ap (λ words. s′ .reports ++ (words ∷ [])) told
-        ∙ sym (ap (λ (y : Watching). y .reports) x′)),
+            (ap (λ (y : Watching). y .stream) x
+            ∙ ap (λ (y : Stream). longer y (meaningOf (c .byte))) (beside .same-stream)
+            ∙ ap (λ b. longer (s′ .stream) (meaningOf b)) byte-same
+            ∙ sym (ap (λ (y : Watching). y .stream) x′))
+            (ap (λ (y : Watching). y .reports) x
+            ∙ ap (λ rs. rs ++ (afterOf f s c .reports ∷ [])) (beside .same-told)
+            ∙ ap (λ words. s′ .reports ++ (words ∷ [])) told
+            ∙ sym (ap (λ (y : Watching). y .reports) x′)),
       )
 
   refused-same : (reason : Refusal) → judgedOf f s c ≡ Refused reason → judgedOf f s′ c′ ≡ Refused reason → Same-next
@@ -216,7 +216,7 @@ module _ (f : List ℕ) (rows depth rows′ depth′ : ℕ) (more-rows : rows �
         ap (λ j. answerOf j (s .now) (afterOf f s c) .outcome) e ∙ sym (ap (λ j. answerOf j (s′ .now) (afterOf f s′ c′) .outcome) e′),
         none-given f s c reason e ∙ sym (none-given f s′ c′ reason e′),
         after-both (ap (λ (y : Watching). y .stream) x ∙ beside .same-stream ∙ sym (ap (λ (y : Watching). y .stream) x′))
-        (ap (λ (y : Watching). y .reports) x ∙ beside .same-told ∙ sym (ap (λ (y : Watching). y .reports) x′)),
+            (ap (λ (y : Watching). y .reports) x ∙ beside .same-told ∙ sym (ap (λ (y : Watching). y .reports) x′)),
       )
 
   next-same : ¬ Wants (judgedOf f s c) → Same-next

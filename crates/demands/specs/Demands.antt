@@ -16,11 +16,15 @@ use Rattle.meaning.specs.Refusals.{FirstAt, appliesAt}
 use Rattle.places.specs.Places.{workLength}
 use Rattle.places.specs.Memory.{Held, workWords}
 use Rattle.reports.specs.Reports.{selectedWord, failedWord, onFront}
+use Rattle.order.specs.declared.Shape.{Shape}
+use Rattle.order.specs.Order.{wordRight}
 use Rattle.answers.specs.declared.Record.{Record}
+use Rattle.answers.specs.declared.Outcome.the-variants.{Refused}
+use Rattle.answers.specs.declared.Refusal.the-variants as why
 use Rattle.answers.specs.Record.{noRecord}
 use Rattle.answers.specs.Bytes.{meaningOf}
 use Rattle.answers.specs.Answers.{outcomeNumber}
-use Rattle.judge.specs.Judging.{startLines}
+use Rattle.judge.specs.Judging.{recordRight, shapeOf, startLines}
 use Rattle.engine.specs.Calls.{memoryOf, lines, eventAfter, eventAnswer, eventWork, eventReports, startAnswer, startWork}
 use Rattle.following.specs.Lists.{In, Rising, positionOf, times}
 use Rattle.following.specs.Following.{memoryAfter, heldAfter, positionsOf}
@@ -28,6 +32,16 @@ use Rattle.demands.specs.Watching.{Call, Watching, longer, countOf, outc
 use Rattle.demands.specs.Deciding.{Read, CertainIn, RuledOutIn, AliveIn, Pending, AliveAre}
 
 ---------------------------------------------------------------- demand 1
+
+-- The word at i of memory is out of order, and all before it are in order.
+pub record FirstWrong (s : Shape) (words : List ℕ) (i : ℕ) : Type 0 where
+  pub inside : i < length words
+  pub wrong : wordRight s words i ≡ false
+  pub right-before : (j : ℕ) → j < i → wordRight s words j ≡ true
+
+-- The place that refusal 7 is to carry, for a table with n states.
+abbrev pub FaultAt : Record → ℕ → List ℕ → ℕ → Type 0
+FaultAt r n work i = ((recordRight r ≡ false) × (i ≡ length work)) ⊎ ((recordRight r ≡ true) × FirstWrong (shapeOf r n) work i)
 
 -- Of an event call with any table, record, memory, slice for reports and byte.
 pub record Demand1 (f : List ℕ) (r : Record) (work reports : List ℕ) (byte : ℕ) : Type 0 where
@@ -41,6 +55,9 @@ pub record Demand1 (f : List ℕ) (r : Record) (work reports : List ℕ) (byte :
       ↔ ((i : ℕ) → appliesAt (lines f r work (length reports) (meaningOf byte)) i ≡ false)
   -- It is taken, or refused by one of the fifteen.
   pub answered : outcomeNumber (eventAnswer f r work reports byte .outcome) < 16
+  -- Refusal 7 carries the place of the first word out of order; the length of memory where the record by itself is.
+  pub place :
+      (i : ℕ) → eventAnswer f r work reports byte .outcome ≡ Refused (why.Order i) → FaultAt r (tableOf f .states) work i
   -- Refused, it gives its record back and 0 as the number of reports, and leaves memory and reports as they were.
   pub kept :
       0 < outcomeNumber (eventAnswer f r work reports byte .outcome) →
@@ -110,6 +127,10 @@ pub record Demand3 (f : List ℕ) (s : Watching) (c : Call) : Type 0 where
       (i : ℕ) → In (failedWord i) (given f s c)
       ↔ (Pending (tableOf f) (s .stream) (called f s c .stream) i × RuledOutIn (tableOf f) (called f s c .stream) i)
   pub ascending : Rising (positions (called f s c .stream .events)) 0 (map positionOf (given f s c))
+  -- The end reports all that are left.
+  pub end-reports-all :
+      called f s c .stream .ended ≡ true → (i : ℕ) → Read (s .stream) i → AliveIn (tableOf f) (s .stream) i →
+      In (selectedWord i) (given f s c) ⊎ In (failedWord i) (given f s c)
 
 -- Of a watch.
 pub record StandingDemand3 (f : List ℕ) (s : Watching) : Type 0 where
@@ -131,7 +152,7 @@ pub record StandingDemand3 (f : List ℕ) (s : Watching) : Type 0 where
       (i : ℕ) (further : List Call) →
       (In (selectedWord i) (joined (s .reports)) → CertainIn (tableOf f) (calledAll f s further .stream) i)
       × (In (failedWord i) (joined (s .reports)) → RuledOutIn (tableOf f) (calledAll f s further .stream) i)
-  -- The end decides all that are left.
+  -- The end leaves none undecided.
   pub end-decides :
       s .stream .ended ≡ true → (i : ℕ) → Read (s .stream) i →
       CertainIn (tableOf f) (s .stream) i ⊎ RuledOutIn (tableOf f) (s .stream) i
