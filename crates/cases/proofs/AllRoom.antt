@@ -5,7 +5,7 @@ use mathlib.Core.List.{List, [], _∷_, map}
 use mathlib.Core.Path.{_≡_, refl, sym, ap, _∙_, subst}
 use Prim.Native.Nat.{ℕ, _+_, _≤_}
 use native.Mathlib.Omega.{arith}
-use borrow.Author.Tests.{le-ltb, eqb-false}
+use borrow.Author.Tests.{le-ltb}
 use lib.Dec.{T, T-not, eqb, eqb-refl, ltb}
 use lib.ListN.{length, replicate, length-replicate}
 use Rattle.meaning.specs.Masks.{added, within}
@@ -15,12 +15,12 @@ use Rattle.order.specs.Order.{firstFrom, firstFault}
 use Rattle.answers.specs.declared.Outcome.{Outcome}
 use Rattle.answers.specs.declared.Outcome.the-variants.{Taken, Refused}
 use Rattle.answers.specs.Answers.{outcomeNumber, refusalNumber}
-use Rattle.demands.specs.Watching.{Call, Stream, Told, toldAll, begun, Started, watching}
+use Rattle.demands.specs.Watching.{Told, toldAll, begun, Started, watching}
 use Rattle.demands.specs.Room.{Alike, NoWant}
 use Rattle.demands.specs.Room as room
 use Rattle.demands.proofs.MoreRoom.{more-room}
 use Rattle.cases.specs.Tables.{tableW, tableL}
-use Rattle.cases.specs.Cases.{Shown, reports, refused, shown, showing, before, calling, Says, Tells}
+use Rattle.cases.specs.Cases.{Shown, reports, refused, shown, before, calling, Says, Tells}
 use Rattle.cases.proofs.Cases.{all-hold}
 
 -- Nothing is refused for want of depth or of rows.

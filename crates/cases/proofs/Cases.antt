@@ -1,5 +1,5 @@
 -- The twelve cases hold, by computation over the definitions that the contracts cite. Assumes nothing.
-use mathlib.Core.Path.{_≡_, refl}
+use mathlib.Core.Path.{refl}
 use Rattle.meaning.specs.Masks.{added, within}
 use Rattle.order.specs.Order.{firstFrom, firstFault}
 use Rattle.cases.specs.Cases.{All, Holds, cases}

@@ -1,7 +1,7 @@
 -- No useless watch meets the contracts. Assumes nothing. The first two events of case 7 are enough: table W, an open of label
 -- 0, which reports nothing, and in it a point of label 1, which reports both positions.
 use mathlib.Core.List.{List, [], _∷_}
-use mathlib.Core.Path.{_≡_, refl, sym, ap, _∙_, subst}
+use mathlib.Core.Path.{_≡_, refl, sym, ap, _∙_}
 use Prim.Native.Nat.{ℕ, _+_, _<_}
 use native.Mathlib.Omega.{arith}
 use lib.ListN.{getD, length, take}
@@ -13,9 +13,9 @@ use Rattle.answers.specs.declared.Event.{Event}
 use Rattle.answers.specs.declared.Event.the-variants.{Open, Point, Close, End, Unknown}
 use Rattle.answers.specs.Bytes.{meaningOf}
 use Rattle.answers.specs.Answers.{outcomeNumber}
-use Rattle.engine.specs.Calls.{taking, eventAfter, eventAnswer, eventWork, eventReports, startAnswer}
+use Rattle.engine.specs.Calls.{taking, eventAnswer, eventReports}
 use Rattle.meaning.specs.Table.{Table, tableOf}
-use Rattle.demands.specs.Watching.{Call, Watching, countOf, begun, Started, outcomeOf, given, called}
+use Rattle.demands.specs.Watching.{Watching, countOf, begun, Started, outcomeOf, given, called}
 use Rattle.demands.proofs.Taking.{step-demand-2}
 use Rattle.cases.specs.Tables.{tableW}
 use Rattle.cases.specs.Cases.{before, calling}

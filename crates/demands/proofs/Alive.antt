@@ -2,7 +2,7 @@
 -- where it says so.
 use mathlib.Core.List.{List, []}
 use mathlib.Core.Logic.{⊎-elim, Iff·trans, Iff·symm}
-use mathlib.Core.Path.{_≡_, ap}
+use mathlib.Core.Path.{_≡_}
 use Prim.Native.Nat.{ℕ}
 use Rattle.meaning.specs.Table.{Table, WellFormed}
 use Rattle.meaning.specs.Streams.{Event, Prefix}

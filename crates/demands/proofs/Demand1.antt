@@ -15,7 +15,7 @@ use Rattle.answers.specs.Answers.{outcomeNumber}
 use Rattle.judge.specs.declared.Judged.{Judged}
 use Rattle.judge.specs.declared.Judged.the-variants.{Fine, Refused}
 use Rattle.judge.specs.Judging.{judgedNumber, startLines}
-use Rattle.engine.specs.Calls.{After, lines, answerOf, eventJudged, eventAfter, eventAnswer, startJudged, startAfter}
+use Rattle.engine.specs.Calls.{After, lines, answerOf, eventJudged, eventAfter, startJudged, startAfter}
 use Rattle.engine.proofs.Numbers.{event-exactly, event-taken, refused-keeps, start-exactly, start-taken, start-refused-keeps}
 use Rattle.demands.specs.Watching.{countOf}
 use Rattle.demands.specs.Demands.{Demand1, StartDemand1}

@@ -2,17 +2,20 @@
 -- events taken. Assumes a watch that a taken start and any calls led to.
 use mathlib.Core.Bool.{Bool, true, false, true≢false}
 use mathlib.Core.List.{List}
-use mathlib.Core.Logic.{_↔_, _⊎_, inl, inr, ⊎-elim}
+use mathlib.Core.Logic.{_↔_, inl, inr, ⊎-elim, Iff·trans}
 use mathlib.Core.Path.{_≡_, refl, sym, ap, _∙_, subst}
 use Prim.Native.Nat.{ℕ, _<_}
 use native.Mathlib.Omega.{arith}
+use lib.Dec.{T}
 use lib.ListN.{length, drop, length-map}
 use Rattle.meaning.specs.Table.{Table, tableOf}
 use Rattle.meaning.specs.Streams as stream
 use Rattle.meaning.specs.Streams.{Prefix, Whole, Selects}
+use Rattle.meaning.specs.Hedges.{evaluate}
+use Rattle.meaning.proofs.Hedges.{selects-is, whole-is}
 use Rattle.meaning.proofs.Earliest as earliest
 use Rattle.places.specs.Places.{rowLength}
-use Rattle.places.specs.Memory.{Held, heldsIn}
+use Rattle.places.specs.Memory.{Held}
 use Rattle.places.proofs.Good.{helds-length}
 use Rattle.reports.specs.Reports.{selectedWord, failedWord}
 use Rattle.answers.specs.declared.Record.{Record}
@@ -20,12 +23,12 @@ use Rattle.engine.specs.Calls.{memoryOf}
 use Rattle.following.specs.Lists.{In, times}
 use Rattle.following.specs.Following.{positionsOf}
 use Rattle.demands.specs.Watching.{Call, Stream, Watching, Started, watching, joined}
-use Rattle.demands.specs.Deciding.{Read, CertainIn, RuledOutIn, AliveIn, AliveAre}
-use Rattle.demands.specs.Demands.{Demand2}
+use Rattle.demands.specs.Deciding.{Read, CertainIn, RuledOutIn, AliveAre}
+use Rattle.demands.specs.Demands.{Published, Demand2}
 use Rattle.demands.proofs.Follows.{Follows, recordAt, workAt, numbers-now, follows-watching}
 use Rattle.demands.proofs.OneEvent.{Decides, over-selects, over-fails, over-decides}
 use Rattle.demands.proofs.Alive.{alive-same}
-use Rattle.demands.proofs.SoFar.{SoFar, read-or-not}
+use Rattle.demands.proofs.SoFar.{read-or-not}
 use Rattle.demands.proofs.Demand3.{FarOf, rows-alive, decided-at, so-far-watching}
 
 -- As many levels are open as the record says.
@@ -80,15 +83,38 @@ module _ (f : List ℕ) (rows depth : ℕ) (s : Watching) (follow : Follows f ro
       ∙ sym (length-map held (λ (h : Held). h .position))
       ∙ ap length (alive-same t (s .stream) (positionsOf held) alive (rows-alive f rows depth s follow) a)
 
+  selected-whole : s .stream .ended ≡ true → (i : ℕ) → Read (s .stream) i → In (selectedWord i) (joined (s .reports)) ↔ Selects t i w
+  selected-whole e i r =
+      (λ m. selects-at (s .stream .ended) e i .0 (far .selected i .0 m .1), λ h. far .selected i .1 (r, selects-at (s .stream .ended) e i .1 h))
+
+  failed-whole : s .stream .ended ≡ true → (i : ℕ) → Read (s .stream) i → In (failedWord i) (joined (s .reports)) ↔ (¬ Selects t i w)
+  failed-whole e i r = (λ m. fails-at (s .stream .ended) e i .0 (far .failed i .0 m .1), λ h. far .failed i .1 (r, fails-at (s .stream .ended) e i .1 h))
+
+  whole-stream : s .stream .ended ≡ true → Whole t w
+  whole-stream e = subst (Prefix t w) (follow .closed e) (follow .reads)
+
+  as-published : s .stream .ended ≡ true → Published t (s .stream) (joined (s .reports))
+  as-published e =
+      let (h, labelled, is) = whole-is t w .0 (whole-stream e) in
+      let meant : (i : ℕ) → Selects t i w ↔ T (t .final (evaluate t i (t .start) h)) = λ i. subst (λ x. Selects t i x ↔ T (t .final (evaluate t i (t .start) h))) is (selects-is t i h) in
+      record {
+        hedge = h;
+        labelled = labelled;
+        stream-is = is;
+        selected = λ i r. Iff·trans (selected-whole e i r) (meant i);
+        failed = λ i r. Iff·trans (failed-whole e i r) (λ n x. n (meant i .1 x), λ n x. n (meant i .0 x));
+      }
+
   pub whole-demand-2 : Demand2 f rows depth s
   whole-demand-2 =
       let b = s .stream .ended in
       let n = numbers-now f rows depth s follow in
       record {
-        whole = λ e. subst (Prefix t w) (follow .closed e) (follow .reads);
+        whole = whole-stream;
         once = λ e i r. far .once i r (decided-at f rows depth s follow b e i);
-        selected = λ e i r. (λ m. selects-at b e i .0 (far .selected i .0 m .1), λ h. far .selected i .1 (r, selects-at b e i .1 h));
-        failed = λ e i r. (λ m. fails-at b e i .0 (far .failed i .0 m .1), λ h. far .failed i .1 (r, fails-at b e i .1 h));
+        selected = selected-whole;
+        failed = failed-whole;
+        published = as-published;
         no-other = λ i h. far .none i (λ r. absurd (h r));
         never-twice = at-most-once;
         depth-is = depth-now f rows depth s follow;

@@ -1,13 +1,11 @@
 -- Demand 3: each report comes at the first moment it can. Assumes a watch that a taken start and any calls led to.
 use mathlib.Core.Bool.{Bool, true, false, true≢false}
 use mathlib.Core.List.{List, [], _∷_, _++_, append-assoc, append-nil}
-use mathlib.Core.Logic.{_↔_, _⊎_, inl, inr, ⊎-elim}
+use mathlib.Core.Logic.{_⊎_, inl, inr, ⊎-elim}
 use mathlib.Core.Path.{_≡_, refl, sym, ap, _∙_, subst}
 use Prim.Native.Nat.{ℕ}
-use native.Mathlib.Omega.{arith}
 use Rattle.meaning.specs.Table.{Table, tableOf}
 use Rattle.meaning.specs.Streams as stream
-use Rattle.meaning.specs.Streams.{Whole}
 use Rattle.places.specs.Memory.{Held, Memory}
 use Rattle.answers.specs.declared.Record.{Record}
 use Rattle.answers.specs.declared.Event.{Event}
@@ -25,8 +23,8 @@ use Rattle.demands.specs.Watching.{Call, Stream, Watching, Started, begu
 use Rattle.demands.specs.Deciding.{Read, CertainIn, RuledOutIn, AliveIn, Pending, AliveAre}
 use Rattle.demands.specs.Demands.{Demand3, StandingDemand3}
 use Rattle.demands.proofs.Taking.{taken-judged, judgedOf, given-is, refused-call, taken-call}
-use Rattle.demands.proofs.Follows.{Follows, Early, Kind, kind, recordAt, early, going-on, passed-as, can-read, all-closed, after-event, after-end, called-event, called-end, memory-now, follows-start, follows-call, follows-calls, follows-watching}
-use Rattle.demands.proofs.OneEvent.{Goes, going, over, goes-event, goes-end, over-decides}
+use Rattle.demands.proofs.Follows.{Follows, Early, Kind, kind, recordAt, early, going-on, passed-as, can-read, all-closed, after-event, after-end, called-event, called-end, memory-now, follows-start, follows-call, follows-watching}
+use Rattle.demands.proofs.OneEvent.{Goes, going, goes-event, goes-end, over-decides}
 use Rattle.demands.proofs.Alive.{alive-going, alive-over}
 use Rattle.demands.proofs.SoFar.{SoFar, so-far-none, so-far-on}
 

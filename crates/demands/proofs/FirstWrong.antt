@@ -1,8 +1,8 @@
 -- Refusal 7 carries the place of the first word out of order. Assumes nothing.
 use mathlib.Core.Bool.{Bool, true, false, cond, true≢false}
 use mathlib.Core.List.{List}
-use mathlib.Core.Logic.{_⊎_, inl, inr}
-use mathlib.Core.Path.{_≡_, refl, sym, ap, _∙_, subst}
+use mathlib.Core.Logic.{inl, inr}
+use mathlib.Core.Path.{_≡_, refl, sym, ap, _∙_}
 use Prim.Native.Nat.{ℕ, zero, suc, _+_, _<_, _≤_}
 use native.Mathlib.Decide.{ℕ-discrete}
 use native.Mathlib.Omega.{arith}
@@ -15,15 +15,13 @@ use Rattle.order.specs.declared.Place.the-variants.{At}
 use Rattle.order.specs.declared.Place.the-variants as found
 use Rattle.order.specs.Order.{wordRight, firstFrom, firstFault}
 use Rattle.answers.specs.declared.Record.{Record}
-use Rattle.answers.specs.declared.Outcome.{Outcome}
 use Rattle.answers.specs.declared.Outcome.the-variants as outcome
 use Rattle.answers.specs.declared.Refusal.the-variants as why
 use Rattle.answers.specs.Answers.{outcomeNumber}
 use Rattle.answers.specs.Bytes.{meaningOf}
-use Rattle.judge.specs.declared.Judged.{Judged}
 use Rattle.judge.specs.declared.Judged.the-variants.{Fine, Refused}
 use Rattle.judge.specs.Judging.{judgedNumber, recordRight, shapeOf, faultOf, isFault, faultAt}
-use Rattle.engine.specs.Calls.{After, lines, answerOf, eventJudged, eventAfter, eventAnswer}
+use Rattle.engine.specs.Calls.{lines, answerOf, eventJudged, eventAfter, eventAnswer}
 use Rattle.engine.proofs.Numbers.{event-exactly}
 use Rattle.demands.specs.Demands.{FirstWrong, FaultAt}
 

@@ -3,11 +3,10 @@
 use mathlib.Core.Bool.{Bool, true, false, true≢false}
 use mathlib.Core.List.{List, [], _∷_, _++_}
 use mathlib.Core.Path.{_≡_, refl, sym, ap, _∙_, subst}
-use Prim.Native.Nat.{ℕ, zero, suc, _+_, _-_, _<_, _≤_}
+use Prim.Native.Nat.{ℕ, suc, _+_, _-_, _<_, _≤_}
 use native.Mathlib.Numerals.{add-one}
 use native.Mathlib.Omega.{arith}
 use borrow.Author.Tests.{ltb-false, not-false}
-use lib.Dec.{ltb}
 use lib.ListN.{length, replicate, length-replicate}
 use Rattle.meaning.specs.Table.{Table, WellFormed, tableOf}
 use Rattle.meaning.specs.Masks.{accsOf}
@@ -16,9 +15,9 @@ use Rattle.meaning.specs.Streams as stream
 use Rattle.meaning.specs.Streams.{positions, Reads, Prefix}
 use Rattle.meaning.proofs.Refusals.{none-taken}
 use Rattle.meaning.proofs.Streams.{reads-join}
-use Rattle.bodies.specs.Sound.{statesIn, labelsIn}
+use Rattle.bodies.specs.Sound.{labelsIn}
 use Rattle.places.specs.Places.{workLength}
-use Rattle.places.specs.Memory.{Held, Memory, workWords}
+use Rattle.places.specs.Memory.{Memory, workWords}
 use Rattle.rows.specs.Steps.{depthAfter}
 use Rattle.reports.specs.Reports.{reportsOf, endReports}
 use Rattle.stepping.specs.Stepping.{stepMemory, leftMemory}

@@ -1,22 +1,17 @@
 -- A watch's own record and memory, handed back as received, are in order. Assumes a watch that a taken start and any calls led to.
-use mathlib.Core.Bool.{Bool, true, false, not, cond, _&&_, _||_}
-use mathlib.Core.List.{List, _++_}
-use mathlib.Core.Path.{_≡_, refl, sym, ap, _∙_}
-use Prim.Native.Nat.{ℕ, _+_, _<_, _≤_}
+use mathlib.Core.Bool.{Bool, true, false}
+use mathlib.Core.List.{List}
+use mathlib.Core.Path.{_≡_, ap, _∙_}
+use Prim.Native.Nat.{ℕ}
 use native.Mathlib.Omega.{arith}
 use borrow.Author.Tests.{le-leb}
-use lib.Dec.{ltb, leb}
-use lib.ListN.{length}
 use Rattle.meaning.specs.Table.{Table, tableOf}
 use Rattle.meaning.specs.Streams as stream
 use Rattle.places.specs.Places.{workLength}
-use Rattle.order.specs.declared.Place.{Place}
 use Rattle.order.specs.declared.Place.the-variants.{Fine}
 use Rattle.order.specs.Order.{firstFault}
 use Rattle.answers.specs.declared.Record.{Record}
-use Rattle.answers.specs.Bytes.{meaningOf}
-use Rattle.judge.specs.Judging.{tableLines, sizesRight, recordRight, shapeOf, faultOf, isFault, callLines, eventLines}
-use Rattle.engine.specs.Calls.{lines, rowsLines}
+use Rattle.judge.specs.Judging.{tableLines, recordRight, shapeOf, faultOf, isFault}
 use Rattle.following.specs.Following.{memoryAfter}
 use Rattle.following.proofs.Ordered.{in-order, zeros-in-order}
 use Rattle.following.proofs.Held.{held-rise, memory-good}

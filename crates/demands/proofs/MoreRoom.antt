@@ -1,19 +1,19 @@
 -- More room changes nothing: of two watches over one table the second, with at least the rows and levels of the first, answers and
 -- reports the same, up to the first's refusal for want of either. Assumes that both starts were taken.
-use mathlib.Core.Bool.{Bool, true, false, not, _||_}
+use mathlib.Core.Bool.{Bool, true, false}
 use mathlib.Core.List.{List, [], _∷_, _++_}
 use mathlib.Core.Logic.{_⊎_, inl, inr, ⊎-elim}
 use mathlib.Core.Path.{_≡_, refl, sym, ap, _∙_, subst}
-use Prim.Native.Nat.{ℕ, _+_, _<_, _≤_}
+use Prim.Native.Nat.{ℕ, _+_, _≤_}
 use native.Mathlib.Omega.{arith}
 use borrow.Author.Tests.{leb-true, le-leb, ltb-true, lt-ltb}
-use lib.Dec.{ltb, leb}
+use lib.Dec.{ltb}
 use lib.ListN.{length, drop}
 use Rattle.meaning.specs.Table.{Table, tableOf}
 use Rattle.meaning.specs.Masks.{accsOf}
 use Rattle.meaning.specs.Refusals.{Line, firstOf}
 use Rattle.meaning.specs.Streams as stream
-use Rattle.meaning.specs.Streams.{Run, marked, positions, Prefix}
+use Rattle.meaning.specs.Streams.{Run, positions, Prefix}
 use Rattle.meaning.proofs.Streams.{run-depth}
 use Rattle.places.specs.Places.{rowLength}
 use Rattle.places.specs.Memory.{Held, Memory}

@@ -1,17 +1,17 @@
 -- All reports so far, one event after the other: each position that is decided has been reported once, with its verdict, and no
 -- other. Assumes nothing.
-use mathlib.Core.List.{List, [], _∷_, _++_, map}
+use mathlib.Core.List.{List, [], _++_}
 use mathlib.Core.Logic.{_↔_, _⊎_, inl, inr, ⊎-elim}
-use mathlib.Core.Path.{_≡_, sym, ap, _∙_, subst}
-use Prim.Native.Nat.{ℕ, _+_, _*_, _/_, _≤_}
+use mathlib.Core.Path.{_≡_}
+use Prim.Native.Nat.{ℕ, _+_, _*_, _≤_}
 use native.Mathlib.Decide.{decLe}
 use native.Mathlib.Omega.{arith}
 use Rattle.meaning.specs.Table.{Table}
 use Rattle.meaning.specs.Streams.{positions}
 use Rattle.reports.specs.Reports.{selectedWord, failedWord}
-use Rattle.following.specs.Lists.{In, Rising, positionOf, times}
+use Rattle.following.specs.Lists.{In, positionOf, times}
 use Rattle.following.proofs.Lists.{in-left, in-right, in-cases, in-as, in-nil, times-append, times-none, times-once}
-use Rattle.demands.specs.Watching.{Stream, joined}
+use Rattle.demands.specs.Watching.{Stream}
 use Rattle.demands.specs.Deciding.{Read, CertainIn, RuledOutIn, AliveIn, Pending}
 use Rattle.demands.proofs.OneEvent.{Decides, Goes, going}
 

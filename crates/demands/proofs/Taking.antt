@@ -1,7 +1,5 @@
 -- What a caller has after a call: nothing new where it was refused, and else what the rules name. Assumes nothing.
-use mathlib.Core.Bool.{Bool, true, false}
 use mathlib.Core.List.{List, [], _∷_, _++_}
-use mathlib.Core.Logic.{_⊎_, inl, inr}
 use mathlib.Core.Path.{_≡_, refl, sym, ap, _∙_}
 use Prim.Native.Nat.{ℕ, _+_, _-_}
 use native.Mathlib.Omega.{arith}
@@ -17,7 +15,7 @@ use Rattle.answers.specs.declared.Record.{Record}
 use Rattle.answers.specs.declared.Answer.{Answer}
 use Rattle.answers.specs.declared.Refusal.{Refusal}
 use Rattle.answers.specs.Bytes.{meaningOf}
-use Rattle.answers.specs.Answers.{outcomeNumber, takenOf, refusedOf}
+use Rattle.answers.specs.Answers.{outcomeNumber, takenOf}
 use Rattle.judge.specs.declared.Judged.{Judged}
 use Rattle.judge.specs.declared.Judged.the-variants.{Fine, Refused}
 use Rattle.judge.specs.Judging.{judgedNumber, judgedLines}
@@ -26,7 +24,7 @@ use Rattle.engine.specs.Calls.{After, lines, memoryOf, unless, answerOf, eventJ
 use Rattle.engine.proofs.Numbers.{event-taken}
 use Rattle.engine.proofs.Ready.{ready}
 use Rattle.engine.proofs.Taking.{judged-stands}
-use Rattle.demands.specs.Watching.{Call, Stream, Watching, longer, countOf, onTaken, outcomeOf, given, called}
+use Rattle.demands.specs.Watching.{Call, Stream, Watching, longer, countOf, onTaken, given, called}
 use Rattle.demands.specs.Demands.{StepDemand2}
 
 -- A refusal is one.

@@ -1,8 +1,7 @@
 -- Want of rows: where none of 1 to 14 applies, 15 is given exactly if more positions would be alive after the event than there are
 -- rows. Assumes a watch that a taken start and any calls led to.
-use mathlib.Core.Bool.{Bool, true, false}
+use mathlib.Core.Bool.{Bool, false}
 use mathlib.Core.List.{List, [], _∷_, _++_}
-use mathlib.Core.Logic.{_↔_}
 use mathlib.Core.Path.{_≡_, refl, sym, ap, _∙_, subst}
 use Prim.Native.Nat.{ℕ, _<_, _≤_}
 use native.Mathlib.Decide.{decLe}
@@ -11,20 +10,18 @@ use borrow.Author.Tests.{ltb-true, lt-ltb}
 use lib.ListN.{length, length-map}
 use Rattle.meaning.specs.Table.{Table, tableOf}
 use Rattle.meaning.specs.Refusals.{appliesAt}
-use Rattle.meaning.specs.Streams as stream
 use Rattle.meaning.proofs.Refusals.{none-taken}
 use Rattle.meaning.proofs.Streams.{reads-join}
 use Rattle.places.specs.Memory.{Held}
 use Rattle.answers.specs.declared.Event.{Event}
-use Rattle.answers.specs.declared.Event.the-variants.{End, Unknown}
+use Rattle.answers.specs.declared.Event.the-variants.{Unknown}
 use Rattle.answers.specs.Bytes.{meaningOf}
-use Rattle.answers.specs.Answers.{outcomeNumber}
 use Rattle.judge.specs.declared.Judged.the-variants.{Fine}
 use Rattle.judge.specs.Judging.{judgedNumber, judgedLines}
 use Rattle.engine.specs.Calls.{After, lines, rowsLines}
 use Rattle.engine.proofs.Numbers.{event-exactly}
 use Rattle.following.specs.Following.{memoryAfter, positionsOf}
-use Rattle.demands.specs.Watching.{Call, Stream, Watching, longer, Started, outcomeOf, watching}
+use Rattle.demands.specs.Watching.{Call, Stream, Watching, longer, Started, watching}
 use Rattle.demands.specs.Deciding.{AliveAre}
 use Rattle.demands.specs.Demands.{WantOfRows}
 use Rattle.demands.proofs.Lines.{front-applies, past-applies}

@@ -4,14 +4,15 @@
 -- f is the table file. What is said of a watch s is asked of every watch that a taken start and any calls lead to; what is said
 -- of a call c, of every next call.
 use mathlib.Core.Bool.{true, false}
-use mathlib.Core.List.{List, [], _∷_, map}
+use mathlib.Core.List.{List, map}
 use mathlib.Core.Logic.{_↔_, _⊎_}
 use mathlib.Core.Path.{_≡_}
 use Prim.Native.Nat.{ℕ, _+_, _<_}
-use lib.Dec.{ltb}
+use lib.Dec.{T, ltb}
 use lib.ListN.{length, replicate}
 use Rattle.meaning.specs.Table.{Table, tableOf}
 use Rattle.meaning.specs.Streams.{positions, Prefix, Whole, Selects}
+use Rattle.meaning.specs.Hedges.{Hedge, Labelled, streamOf, evaluate}
 use Rattle.meaning.specs.Refusals.{FirstAt, appliesAt}
 use Rattle.places.specs.Places.{workLength}
 use Rattle.places.specs.Memory.{Held, workWords}
@@ -28,7 +29,7 @@ use Rattle.judge.specs.Judging.{recordRight, shapeOf, startLines}
 use Rattle.engine.specs.Calls.{memoryOf, lines, eventAfter, eventAnswer, eventWork, eventReports, startAnswer, startWork}
 use Rattle.following.specs.Lists.{In, Rising, positionOf, times}
 use Rattle.following.specs.Following.{memoryAfter, heldAfter, positionsOf}
-use Rattle.demands.specs.Watching.{Call, Watching, longer, countOf, outcomeOf, given, called, calledAll, joined}
+use Rattle.demands.specs.Watching.{Call, Stream, Watching, longer, countOf, outcomeOf, given, called, calledAll, joined}
 use Rattle.demands.specs.Deciding.{Read, CertainIn, RuledOutIn, AliveIn, Pending, AliveAre}
 
 ---------------------------------------------------------------- demand 1
@@ -91,6 +92,15 @@ pub record StepDemand2 (f : List ℕ) (r : Record) (work reports : List ℕ) (by
   pub told : eventReports f r work reports byte ≡ onFront (eventAfter f r work byte .reports) reports
   pub counted : countOf (eventAnswer f r work reports byte .outcome) ≡ length (eventAfter f r work byte .reports)
 
+-- The stream is that of a hedge, and the reports say of each position what the published meaning of the automaton says of the hedge
+-- marked at it.
+pub record Published (t : Table) (s : Stream) (words : List ℕ) : Type 0 where
+  pub hedge : Hedge
+  pub labelled : Labelled (t .labels) hedge
+  pub stream-is : streamOf hedge ≡ s .events
+  pub selected : (i : ℕ) → Read s i → In (selectedWord i) words ↔ T (t .final (evaluate t i (t .start) hedge))
+  pub failed : (i : ℕ) → Read s i → In (failedWord i) words ↔ (¬ T (t .final (evaluate t i (t .start) hedge)))
+
 -- Of a watch with so many rows and levels allowed.
 pub record Demand2 (f : List ℕ) (rows depth : ℕ) (s : Watching) : Type 0 where
   -- A stream whose end was taken is whole: each position is reported once, selected exactly if the query selects it there.
@@ -102,6 +112,7 @@ pub record Demand2 (f : List ℕ) (rows depth : ℕ) (s : Watching) : Type 0 whe
   pub failed :
       s .stream .ended ≡ true → (i : ℕ) → Read (s .stream) i →
       In (failedWord i) (joined (s .reports)) ↔ (¬ Selects (tableOf f) i (s .stream .events))
+  pub published : s .stream .ended ≡ true → Published (tableOf f) (s .stream) (joined (s .reports))
   -- Never is a position reported that was not read, or one twice.
   pub no-other : (i : ℕ) → ¬ Read (s .stream) i → times i (joined (s .reports)) ≡ 0
   pub never-twice : (i : ℕ) → times i (joined (s .reports)) < 2
