@@ -23,7 +23,8 @@ use Rattle.demands.specs.Watching.{Call, Stream, Watching, Started, begu
 use Rattle.demands.specs.Deciding.{Read, CertainIn, RuledOutIn, AliveIn, Pending, AliveAre}
 use Rattle.demands.specs.Demands.{Demand3, StandingDemand3}
 use Rattle.demands.proofs.Taking.{taken-judged, judgedOf, given-is, refused-call, taken-call}
-use Rattle.demands.proofs.Follows.{Follows, Early, Kind, kind, recordAt, early, going-on, passed-as, can-read, all-closed, after-event, after-end, called-event, called-end, memory-now, follows-start, follows-call, follows-watching}
+use Rattle.demands.proofs.Reading.{Kind, kind}
+use Rattle.demands.proofs.Follows.{Follows, Early, recordAt, early, going-on, passed-as, can-read, all-closed, after-event, after-end, called-event, called-end, memory-now, follows-start, follows-call, follows-watching}
 use Rattle.demands.proofs.OneEvent.{Goes, going, goes-event, goes-end, over-decides}
 use Rattle.demands.proofs.Alive.{alive-going, alive-over}
 use Rattle.demands.proofs.SoFar.{SoFar, so-far-none, so-far-on}

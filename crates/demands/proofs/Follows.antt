@@ -3,8 +3,7 @@
 use mathlib.Core.Bool.{Bool, true, false, true≢false}
 use mathlib.Core.List.{List, [], _∷_, _++_}
 use mathlib.Core.Path.{_≡_, refl, sym, ap, _∙_, subst}
-use Prim.Native.Nat.{ℕ, suc, _+_, _-_, _<_, _≤_}
-use native.Mathlib.Numerals.{add-one}
+use Prim.Native.Nat.{ℕ, _<_, _≤_}
 use native.Mathlib.Omega.{arith}
 use borrow.Author.Tests.{ltb-false, not-false}
 use lib.ListN.{length, replicate, length-replicate}
@@ -24,15 +23,15 @@ use Rattle.stepping.specs.Stepping.{stepMemory, leftMemory}
 use Rattle.answers.specs.declared.Record.{Record}
 use Rattle.answers.specs.declared.Answer.{Answer}
 use Rattle.answers.specs.declared.Event.{Event}
-use Rattle.answers.specs.declared.Event.the-variants.{Open, Point, Close, End, Unknown}
+use Rattle.answers.specs.declared.Event.the-variants.{End, Unknown}
 use Rattle.answers.specs.Bytes.{meaningOf}
 use Rattle.answers.specs.Answers.{outcomeNumber}
 use Rattle.answers.specs.Record.{noRecord, withAlive, finishedOf}
 use Rattle.judge.specs.declared.Judged.{Judged}
 use Rattle.judge.specs.declared.Judged.the-variants.{Fine, Refused}
-use Rattle.judge.specs.Judging.{judgedNumber, tableLines, sizesRight, judgedLines, startLines}
+use Rattle.judge.specs.Judging.{judgedNumber, tableLines, sizesRight, startLines}
 use Rattle.judge.proofs.Passed.{EventPassed, passed, event-passed, start-passed}
-use Rattle.engine.specs.Calls.{After, stepRecord, memoryOf, stepped, taking, answerOf, unless, eventAnswer, startJudged, startAfter}
+use Rattle.engine.specs.Calls.{After, stepRecord, memoryOf, taking, answerOf, unless, eventAnswer, startJudged, startAfter}
 use Rattle.engine.proofs.Numbers.{event-taken, start-taken}
 use Rattle.following.specs.Following.{memoryAfter}
 use Rattle.following.proofs.Ordered.{work-length, memory-back}
@@ -41,7 +40,8 @@ use Rattle.following.proofs.Follows.{follows}
 use Rattle.following.proofs.Held.{memory-good}
 use Rattle.demands.specs.Watching.{Call, Stream, Watching, longer, begun, Started, called, calledAll, watching}
 use Rattle.demands.proofs.Lines.{front-applies}
-use Rattle.demands.proofs.Taking.{early-judged, taken-answer, having, judgedOf, afterOf, refused-call, taken-call}
+use Rattle.demands.proofs.Reading.{byteOf, Kind, kind, taking-event, longer-event, Readable, readable, record-on}
+use Rattle.demands.proofs.Taking.{early-judged, taken-answer, having, judgedOf, afterOf, firstLines, refused-call, taken-call}
 
 -- The record and the memory of a watch that has taken w, with d levels open, and after its end.
 abbrev pub recordAt : Table → ℕ → ℕ → ℕ → List stream.Event → Bool → Record
@@ -91,58 +91,6 @@ follows-start f rows depth work h =
     }
 
 ---------------------------------------------------------------- events
-
--- A byte that means an event of the stream means this.
-abbrev pub byteOf : stream.Event → Event
-byteOf (stream.Open a) = Open a
-byteOf (stream.Point a) = Point a
-byteOf stream.Close = Close
-
--- What a byte means: an event of the stream, the end, or nothing.
-pub data Kind : Event → Type 0 where
-  event : (e : stream.Event) → Kind (byteOf e)
-  end : Kind End
-  nothing : Kind Unknown
-
-pub kind : (e : Event) → Kind e
-kind (Open a) = event (stream.Open a)
-kind (Point a) = event (stream.Point a)
-kind Close = event stream.Close
-kind End = end
-kind Unknown = nothing
-
-taking-event : (t : Table) (r : Record) (work : List ℕ) (e : stream.Event) → taking t r work (byteOf e) ≡ stepped t r work e
-taking-event t r work (stream.Open a) = refl
-taking-event t r work (stream.Point a) = refl
-taking-event t r work stream.Close = refl
-
-pub longer-event : (s : Stream) (e : stream.Event) → longer s (byteOf e) ≡ record { events = s .events ++ (e ∷ []); ended = s .ended }
-longer-event s (stream.Open a) = refl
-longer-event s (stream.Point a) = refl
-longer-event s stream.Close = refl
-
--- An event that passed 9 to 14 is read, within the depth allowed and the positions that there are.
-pub record Readable (k : ℕ) (r : Record) (e : stream.Event) : Type 0 where
-  pub reads-on : Reads k (r .depth) (e ∷ []) (depthAfter e (r .depth))
-  pub still-deep : depthAfter e (r .depth) ≤ r .allowed
-  pub still-numbered : r .positions + positions (e ∷ []) ≤ 2147483647
-
-readable : (k : ℕ) (r : Record) (e : stream.Event) → EventPassed k r (byteOf e) → r .depth ≤ r .allowed → r .positions ≤ 2147483647 → Readable k r e
-readable k r (stream.Open a) p d n =
-    record { reads-on = rw (add-one (r .depth)) (Reads.opens (p .0) Reads.none); still-deep = omega (arith, p .1); still-numbered = omega (arith, p .2) }
-readable k r (stream.Point a) p d n =
-    record { reads-on = Reads.points (p .0) Reads.none; still-deep = d; still-numbered = omega (arith, p .1) }
-readable k r stream.Close p d n =
-    let e : r .depth ≡ suc (r .depth - 1) = omega (arith, p) in
-    record { reads-on = subst (λ (x : ℕ). Reads k x (stream.Close ∷ []) (r .depth - 1)) (sym e) (Reads.closes Reads.none); still-deep = omega arith; still-numbered = omega arith }
-
--- The record after an event is that of the stream with it.
-record-on : (rows depth d alive p : ℕ) (e : stream.Event) →
-    stepRecord e (record { rows = rows; allowed = depth; depth = d; alive = alive; positions = p; finished = false })
-    ≡ record { rows = rows; allowed = depth; depth = depthAfter e d; alive = alive; positions = p + positions (e ∷ []); finished = false }
-record-on rows depth d alive p (stream.Open a) = refl
-record-on rows depth d alive p (stream.Point a) = refl
-record-on rows depth d alive p stream.Close = ap (λ (x : ℕ). record { rows = rows; allowed = depth; depth = d - 1; alive = alive; positions = x; finished = false }) (omega arith)
 
 module _ (f : List ℕ) (rows depth : ℕ) (s : Watching) (follow : Follows f rows depth s) where
   abbrev t : Table
@@ -200,7 +148,7 @@ module _ (f : List ℕ) (rows depth : ℕ) (s : Watching) (follow : Follows f ro
   module _ (c : Call) where
     -- None of 1 to 14 applies.
     abbrev pub Early : Type 0
-    Early = firstOf (judgedLines f (s .now) (s .work) (length (c .lent)) (meaningOf (c .byte))) Fine ≡ Fine
+    Early = firstOf (firstLines f s c) Fine ≡ Fine
 
     pub early : judgedOf f s c ≡ Fine → Early
     early fine = early-judged f (s .now) (s .work) (c .lent) (c .byte) fine

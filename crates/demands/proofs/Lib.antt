@@ -2,6 +2,7 @@ pub mod Lines
 pub mod FirstWrong
 pub mod Demand1
 pub mod Taking
+pub mod Reading
 pub mod Follows
 pub mod Handed
 pub mod OneEvent

@@ -33,7 +33,7 @@ use Rattle.judge.specs.declared.Judged.the-variants.{Fine, Refused}
 use Rattle.judge.specs.Judging.{refuses, judgedNumber, eventLines, opensTooDeep, closesNothing, endsOpen, outOfPositions}
 use Rattle.engine.specs.Calls.{After, memoryOf, stepped, taking, rowsLines, lines, answerOf}
 use Rattle.following.specs.Following.{memoryAfter}
-use Rattle.demands.specs.Watching.{Call, Stream, Watching, longer, Started, begun, outcomeOf, given, toldAll, called}
+use Rattle.demands.specs.Watching.{Call, Stream, Watching, longer, Started, begun, linesOf, outcomeOf, given, toldAll, called}
 use Rattle.demands.specs.Room.{Alike, NoWant, SameAnswers}
 use Rattle.demands.specs.Room as room
 use Rattle.demands.proofs.Lines.{Looser, looser-first}
@@ -159,7 +159,7 @@ module _ (f : List ℕ) (rows depth rows′ depth′ : ℕ) (more-rows : rows �
           Looser.none)))))))
 
   -- The second's lines of refusals are looser.
-  looser : Looser Wants (lines f (s .now) (s .work) (length (c .lent)) (meaningOf (c .byte))) (lines f (s′ .now) (s′ .work) (length (c′ .lent)) (meaningOf (c .byte)))
+  looser : Looser Wants (linesOf f s c) (lines f (s′ .now) (s′ .work) (length (c′ .lent)) (meaningOf (c .byte)))
   looser =
       let h = next-handed f rows depth s (beside .one) c in
       let h′ = next-handed f rows′ depth′ s′ (beside .other) c′ in

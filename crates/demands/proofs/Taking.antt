@@ -5,7 +5,7 @@ use Prim.Native.Nat.{ℕ, _+_, _-_}
 use native.Mathlib.Omega.{arith}
 use lib.ListN.{length, take, drop}
 use lib.Seq.{take-at}
-use Rattle.meaning.specs.Refusals.{firstOf}
+use Rattle.meaning.specs.Refusals.{Line, firstOf}
 use Rattle.meaning.proofs.Refusals.{none-taken}
 use Rattle.bodies.specs.Sound.{statesIn}
 use Rattle.places.specs.Places.{rowAt}
@@ -82,6 +82,10 @@ module _ (f : List ℕ) (s : Watching) (c : Call) where
 
   abbrev pub afterOf : After
   afterOf = eventAfter f (s .now) (s .work) (c .byte)
+
+  -- The lines 1 to 14 that it meets.
+  abbrev pub firstLines : List (Line Judged)
+  firstLines = judgedLines f (s .now) (s .work) (length (c .lent)) (meaningOf (c .byte))
 
   -- What the caller has after it, by its judgement and the reports read.
   abbrev calledBy : Judged → List ℕ → Watching

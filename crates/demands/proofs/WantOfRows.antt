@@ -8,8 +8,9 @@ use native.Mathlib.Decide.{decLe}
 use native.Mathlib.Omega.{arith}
 use borrow.Author.Tests.{ltb-true, lt-ltb}
 use lib.ListN.{length, length-map}
-use Rattle.meaning.specs.Table.{Table, tableOf}
+use Rattle.meaning.specs.Table.{tableOf}
 use Rattle.meaning.specs.Refusals.{appliesAt}
+use Rattle.meaning.specs.Streams as stream
 use Rattle.meaning.proofs.Refusals.{none-taken}
 use Rattle.meaning.proofs.Streams.{reads-join}
 use Rattle.places.specs.Memory.{Held}
@@ -17,29 +18,27 @@ use Rattle.answers.specs.declared.Event.{Event}
 use Rattle.answers.specs.declared.Event.the-variants.{Unknown}
 use Rattle.answers.specs.Bytes.{meaningOf}
 use Rattle.judge.specs.declared.Judged.the-variants.{Fine}
-use Rattle.judge.specs.Judging.{judgedNumber, judgedLines}
-use Rattle.engine.specs.Calls.{After, lines, rowsLines}
+use Rattle.judge.specs.Judging.{judgedNumber}
+use Rattle.engine.specs.Calls.{After, rowsLines}
 use Rattle.engine.proofs.Numbers.{event-exactly}
 use Rattle.following.specs.Following.{memoryAfter, positionsOf}
-use Rattle.demands.specs.Watching.{Call, Stream, Watching, longer, Started, watching}
+use Rattle.demands.specs.Watching.{Call, Stream, Watching, longer, Started, linesOf, watching}
 use Rattle.demands.specs.Deciding.{AliveAre}
 use Rattle.demands.specs.Demands.{WantOfRows}
 use Rattle.demands.proofs.Lines.{front-applies, past-applies}
-use Rattle.demands.proofs.Taking.{afterOf}
-use Rattle.demands.proofs.Follows.{Follows, Early, Kind, kind, byteOf, longer-event, going-on, passed-as, can-read, after-event, after-end, follows-watching}
+use Rattle.demands.proofs.Taking.{afterOf, firstLines}
+use Rattle.demands.proofs.Reading.{Kind, kind, byteOf, longer-event}
+use Rattle.demands.proofs.Follows.{Follows, Early, going-on, passed-as, can-read, after-event, after-end, follows-watching}
 use Rattle.demands.proofs.OneEvent.{going, over}
 use Rattle.demands.proofs.Alive.{alive-going, alive-over, alive-same}
 
 module _ (f : List ℕ) (rows depth : ℕ) (s : Watching) (follow : Follows f rows depth s) (c : Call) where
-  early-free : ((i : ℕ) → i < 14 → appliesAt (lines f (s .now) (s .work) (length (c .lent)) (meaningOf (c .byte))) i ≡ false) → Early f rows depth s follow c
-  early-free h =
-      let early = judgedLines f (s .now) (s .work) (length (c .lent)) (meaningOf (c .byte)) in
-      none-taken judgedNumber Fine early (λ i. go i (decLe 14 i))
+  early-free : ((i : ℕ) → i < 14 → appliesAt (linesOf f s c) i ≡ false) → Early f rows depth s follow c
+  early-free h = none-taken judgedNumber Fine (firstLines f s c) (λ i. go i (decLe 14 i))
     where
-      go : (i : ℕ) → Dec (14 ≤ i) → appliesAt (judgedLines f (s .now) (s .work) (length (c .lent)) (meaningOf (c .byte))) i ≡ false
-      go i (yes l) = past-applies (judgedLines f (s .now) (s .work) (length (c .lent)) (meaningOf (c .byte))) i l
-      go i (no l) =
-          sym (front-applies (judgedLines f (s .now) (s .work) (length (c .lent)) (meaningOf (c .byte))) (rowsLines (s .now) (afterOf f s c)) i (omega (arith, l))) ∙ h i (omega (arith, l))
+      go : (i : ℕ) → Dec (14 ≤ i) → appliesAt (firstLines f s c) i ≡ false
+      go i (yes l) = past-applies (firstLines f s c) i l
+      go i (no l) = sym (front-applies (firstLines f s c) (rowsLines (s .now) (afterOf f s c)) i (omega (arith, l))) ∙ h i (omega (arith, l))
 
   -- The rows that the event would leave are the positions alive after it.
   left-alive :
@@ -47,15 +46,12 @@ module _ (f : List ℕ) (rows depth : ℕ) (s : Watching) (follow : Follows f ro
       afterOf f s c .next .alive ≡ length alive
   left-alive free alive a = go (meaningOf (c .byte)) refl (kind (meaningOf (c .byte))) a
     where
-      t : Table
-      t = tableOf f
-
       go : (x : Event) → meaningOf (c .byte) ≡ x → Kind x → AliveAre (tableOf f) (longer (s .stream) x) alive → afterOf f s c .next .alive ≡ length alive
       go x is (Kind.event e) b =
-          let w = s .stream .events ++ (e ∷ []) in
-          let held : List Held = memoryAfter (tableOf f) (s .stream .events ++ (e ∷ [])) .alive in
-          let on : longer (s .stream) (byteOf e) ≡ going (s .stream .events ++ (e ∷ [])) =
-          longer-event (s .stream) e ∙ ap (λ (y : Bool). record { events = s .stream .events ++ (e ∷ []); ended = y }) (going-on f rows depth s follow c free) in
+          let w : List stream.Event = s .stream .events ++ (e ∷ []) in
+          let held : List Held = memoryAfter (tableOf f) w .alive in
+          let on : longer (s .stream) (byteOf e) ≡ going w =
+          longer-event (s .stream) e ∙ ap (λ (y : Bool). record { events = w; ended = y }) (going-on f rows depth s follow c free) in
           let reads = reads-join (follow .reads) (can-read f rows depth s follow c free e is .reads-on) in
           ap (λ (y : After). y .next .alive) (after-event f rows depth s follow c free e is)
           ∙ sym (length-map held (λ (h : Held). h .position))

@@ -29,7 +29,7 @@ use Rattle.judge.specs.Judging.{recordRight, shapeOf, startLines}
 use Rattle.engine.specs.Calls.{memoryOf, lines, eventAfter, eventAnswer, eventWork, eventReports, startAnswer, startWork}
 use Rattle.following.specs.Lists.{In, Rising, positionOf, times}
 use Rattle.following.specs.Following.{memoryAfter, heldAfter, positionsOf}
-use Rattle.demands.specs.Watching.{Call, Stream, Watching, longer, countOf, outcomeOf, given, called, calledAll, joined}
+use Rattle.demands.specs.Watching.{Call, Stream, Watching, longer, countOf, linesOf, outcomeOf, given, called, calledAll, joined}
 use Rattle.demands.specs.Deciding.{Read, CertainIn, RuledOutIn, AliveIn, Pending, AliveAre}
 
 ---------------------------------------------------------------- demand 1
@@ -173,16 +173,16 @@ pub record StandingDemand3 (f : List ℕ) (s : Watching) : Type 0 where
 -- Of a watch with so many rows and its next call, the record and memory handed back as received: 1 to 5 and 7 never apply, 6 only to
 -- a slice for reports that is too short, and 8 exactly after the end.
 pub record Handed (f : List ℕ) (rows : ℕ) (s : Watching) (c : Call) : Type 0 where
-  pub file-right : (i : ℕ) → i < 5 → appliesAt (lines f (s .now) (s .work) (length (c .lent)) (meaningOf (c .byte))) i ≡ false
-  pub size-right : appliesAt (lines f (s .now) (s .work) (length (c .lent)) (meaningOf (c .byte))) 5 ≡ ltb (length (c .lent)) (rows + 1)
-  pub in-order : appliesAt (lines f (s .now) (s .work) (length (c .lent)) (meaningOf (c .byte))) 6 ≡ false
-  pub going-on : appliesAt (lines f (s .now) (s .work) (length (c .lent)) (meaningOf (c .byte))) 7 ≡ s .stream .ended
+  pub file-right : (i : ℕ) → i < 5 → appliesAt (linesOf f s c) i ≡ false
+  pub size-right : appliesAt (linesOf f s c) 5 ≡ ltb (length (c .lent)) (rows + 1)
+  pub in-order : appliesAt (linesOf f s c) 6 ≡ false
+  pub going-on : appliesAt (linesOf f s c) 7 ≡ s .stream .ended
 
 ---------------------------------------------------------------- want of rows
 
 -- Where no earlier refusal applies, 15 is given exactly if more positions would be alive after the event than rows.
 abbrev pub WantOfRows : List ℕ → Watching → Call → Type 0
 WantOfRows f s c =
-    ((i : ℕ) → i < 14 → appliesAt (lines f (s .now) (s .work) (length (c .lent)) (meaningOf (c .byte))) i ≡ false) →
+    ((i : ℕ) → i < 14 → appliesAt (linesOf f s c) i ≡ false) →
     (alive : List ℕ) → AliveAre (tableOf f) (longer (s .stream) (meaningOf (c .byte))) alive →
     (outcomeNumber (outcomeOf f s c) ≡ 15) ↔ (s .now .rows < length alive)

@@ -4,7 +4,8 @@ use mathlib.Core.Bool.{Bool, true, false}
 use mathlib.Core.List.{List, [], _∷_, _++_}
 use mathlib.Core.Path.{_≡_}
 use Prim.Native.Nat.{ℕ}
-use lib.ListN.{take}
+use lib.ListN.{length, take}
+use Rattle.meaning.specs.Refusals.{Line}
 use Rattle.meaning.specs.Streams as stream
 use Rattle.answers.specs.declared.Record.{Record}
 use Rattle.answers.specs.declared.Event.{Event}
@@ -13,7 +14,8 @@ use Rattle.answers.specs.declared.Outcome.{Outcome}
 use Rattle.answers.specs.declared.Outcome.the-variants.{Taken, Refused}
 use Rattle.answers.specs.Bytes.{meaningOf}
 use Rattle.answers.specs.Answers.{outcomeNumber}
-use Rattle.engine.specs.Calls.{eventAnswer, eventWork, eventReports, startAnswer, startWork}
+use Rattle.judge.specs.declared.Judged.{Judged}
+use Rattle.engine.specs.Calls.{lines, eventAnswer, eventWork, eventReports, startAnswer, startWork}
 
 -- What a caller hands to an event call beside the table, the record and work memory: the byte, and the words of the reports
 -- slice that it lends.
@@ -71,6 +73,10 @@ Started f rows depth work = outcomeNumber (startAnswer f rows depth work .outcom
 ---------------------------------------------------------------- an event call
 
 module _ (f : List ℕ) (s : Watching) (c : Call) where
+  -- The lines of refusals that it meets, 1 to 15.
+  abbrev pub linesOf : List (Line Judged)
+  linesOf = lines f (s .now) (s .work) (length (c .lent)) (meaningOf (c .byte))
+
   abbrev pub outcomeOf : Outcome
   outcomeOf = eventAnswer f (s .now) (s .work) (c .lent) (c .byte) .outcome
 
