@@ -120,18 +120,18 @@ module _ (f : List ℕ) (rows depth rows′ depth′ : ℕ) (more-rows : rows �
       ∙ ap (λ (x : Stream). memoryAfter t (x .events)) (beside .same-stream)
       ∙ sym (memory-now f rows′ depth′ s′ (beside .other) (ap (λ (x : Stream). x .ended) (sym (beside .same-stream)) ∙ e))
 
+  abbrev event : Event
+  event = meaningOf (c .byte)
+
   -- 8 and the lines after it.
   abbrev later : Watching → List (Line Judged)
   later x =
       refuses (x .now .finished) why.Finished
-      ∷ (eventLines (t .labels) (x .now) (meaningOf (c .byte)) ++ rowsLines (x .now) (taking t (x .now) (x .work) (meaningOf (c .byte))))
+      ∷ (eventLines (t .labels) (x .now) event ++ rowsLines (x .now) (taking t (x .now) (x .work) event))
 
   later-looser : Looser Wants (later s) (later s′)
   later-looser = go (s .stream .ended) refl
     where
-      e : Event
-      e = meaningOf (c .byte)
-
       over : s .now .finished ≡ s .stream .ended
       over = numbers-now f rows depth s (beside .one) .3
 
@@ -147,14 +147,14 @@ module _ (f : List ℕ) (rows depth rows′ depth′ : ℕ) (more-rows : rows �
       go : (b : Bool) → s .stream .ended ≡ b → Looser Wants (later s) (later s′)
       go true h = Looser.stops (over ∙ h) (over′ ∙ h)
       go false h =
-          let left = step-same t (s .now) (s′ .now) (s .work) (s′ .work) (same-rows h) same-positions (meaningOf (c .byte)) .0 in
+          let left = step-same t (s .now) (s′ .now) (s .work) (s′ .work) (same-rows h) same-positions event .0 in
           Looser.same (over ∙ sym over′)
           (Looser.same refl
           (Looser.same refl
-          (Looser.same (ap (λ d. closesNothing d (meaningOf (c .byte))) same-depth)
-          (Looser.wants (inl refl) (too-deep-less (meaningOf (c .byte)) _ _ _ _ same-depth deeper)
-          (Looser.same (ap (λ d. endsOpen d (meaningOf (c .byte))) same-depth)
-          (Looser.same (ap (λ p. outOfPositions p (meaningOf (c .byte))) same-positions)
+          (Looser.same (ap (λ d. closesNothing d event) same-depth)
+          (Looser.wants (inl refl) (too-deep-less event _ _ _ _ same-depth deeper)
+          (Looser.same (ap (λ d. endsOpen d event) same-depth)
+          (Looser.same (ap (λ p. outOfPositions p event) same-positions)
           (Looser.wants (inr refl) (too-many-less _ _ _ _ roomier left)
           Looser.none)))))))
 
