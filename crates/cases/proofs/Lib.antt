@@ -1,3 +1,4 @@
 pub mod Cases
+pub mod EachNumber
 pub mod AllRoom
 pub mod Useless

@@ -1,3 +1,4 @@
 pub mod Tables
 pub mod Cases
+pub mod EachNumber
 pub mod Useless

@@ -28,6 +28,7 @@ use Rattle.demands.proofs.Follows.{Follows, Early, recordAt, early, goi
 use Rattle.demands.proofs.OneEvent.{Goes, going, goes-event, goes-end, over-decides}
 use Rattle.demands.proofs.Alive.{alive-going, alive-over}
 use Rattle.demands.proofs.SoFar.{SoFar, so-far-none, so-far-on}
+use Rattle.demands.proofs.Timely.{timely-same}
 
 goes-as : (t : Table) {before before′ after after′ : Stream} {words words′ : List ℕ} →
     before ≡ before′ → after ≡ after′ → words ≡ words′ → Goes t before′ after′ words′ → Goes t before after words
@@ -158,11 +159,10 @@ module _ (f : List ℕ) (rows depth : ℕ) (s : Watching) (follow : Follows f ro
       let pending : (i : ℕ) → Read (s .stream) i → AliveIn (tableOf f) (s .stream) i → Pending (tableOf f) (s .stream) (called f s c .stream) i =
       λ i r a. record { read = g .read-stays i r; undecided = λ x. a } in
       record {
-        selected = g .selected;
-        failed = g .failed;
-        ascending = g .ascending;
+        timely = g .timely;
+        nothing-else = λ words h. timely-same (tableOf f) (s .stream) (called f s c .stream) words (given f s c) h (g .timely);
         end-reports-all = λ e i r a.
-            ⊎-elim (λ h. inl (g .selected i .1 (pending i r a, h))) (λ h. inr (g .failed i .1 (pending i r a, h)))
+            ⊎-elim (λ h. inl (g .timely .selected i .1 (pending i r a, h))) (λ h. inr (g .timely .failed i .1 (pending i r a, h)))
             (decided-at f rows depth (called f s c) (follows-call f rows depth s follow c) (called f s c .stream .ended) e i);
       }
 

@@ -6,6 +6,7 @@ pub mod Reading
 pub mod Follows
 pub mod Handed
 pub mod OneEvent
+pub mod Timely
 pub mod Alive
 pub mod SoFar
 pub mod Demand3

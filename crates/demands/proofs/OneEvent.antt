@@ -1,7 +1,7 @@
 -- One taken event: what it reports, what it leaves decided, and that nothing decided is undone. Assumes a well-formed table and
 -- a stream that was read.
 use mathlib.Core.Bool.{Bool, true, false, true≢false}
-use mathlib.Core.List.{List, [], _∷_, _++_, map, append-nil}
+use mathlib.Core.List.{List, [], _∷_, _++_, append-nil}
 use mathlib.Core.Logic.{_↔_, _⊎_, inl, inr, Iff·trans, Iff·and}
 use mathlib.Core.Path.{_≡_, refl, sym, _∙_, subst}
 use Prim.Native.Nat.{ℕ, _≤_}
@@ -12,14 +12,14 @@ use Rattle.meaning.specs.Streams.{Event, positions, marked, Reads, Prefix, Whol
 use Rattle.meaning.proofs.Tests.{true-T, T-true}
 use Rattle.meaning.proofs.Streams.{reads-join}
 use Rattle.meaning.proofs.Earliest as earliest
-use Rattle.reports.specs.Reports.{selectedWord, failedWord, reportsOf, endReports}
+use Rattle.reports.specs.Reports.{reportsOf, endReports}
 use Rattle.stepping.specs.Stepping.{stepMemory}
-use Rattle.following.specs.Lists.{In, Rising, positionOf}
 use Rattle.following.specs.Following.{memoryAfter}
 use Rattle.following.proofs.Stays as stays
 use Rattle.following.proofs.Reported.{Waits, selected-when, failed-when, reports-rise}
 use Rattle.following.proofs.Ends.{end-selected, end-failed, ends-rise}
 use Rattle.demands.specs.Watching.{Stream}
+use Rattle.demands.specs.Demands.{Timely}
 use Rattle.demands.specs.Deciding.{Read, CertainIn, RuledOutIn, AliveIn, Pending}
 
 -- What a position that was read is.
@@ -33,9 +33,7 @@ pub record Goes (t : Table) (before after : Stream) (words : List ℕ) : Type 0 
   pub ruled-out-stays : (i : ℕ) → RuledOutIn t before i → RuledOutIn t after i
   pub decides : (i : ℕ) → Read before i → Decides t before i
   pub never-both : (i : ℕ) → CertainIn t after i → RuledOutIn t after i → ⊥
-  pub selected : (i : ℕ) → In (selectedWord i) words ↔ (Pending t before after i × CertainIn t after i)
-  pub failed : (i : ℕ) → In (failedWord i) words ↔ (Pending t before after i × RuledOutIn t after i)
-  pub ascending : Rising (positions (after .events)) 0 (map positionOf words)
+  pub timely : Timely t before after words
 
 -- The stream goes on, and it has ended.
 abbrev pub going : List Event → Stream
@@ -62,9 +60,11 @@ module _ (t : Table) (wf : WellFormed t) {w : List Event} {d g : ℕ} (e : Event
         ruled-out-stays = λ i. stays.ruled-out-stays t i w (e ∷ []);
         decides = λ i h. earliest.decided t wf i r (h .1);
         never-both = λ i. earliest.never-both t i (reads-join r re);
-        selected = λ i. Iff·trans (selected-when t wf e r re i) (Iff·and (pending-is i) (λ h. h, λ h. h));
-        failed = λ i. Iff·trans (failed-when t wf e r re i) (Iff·and (pending-is i) (λ h. h, λ h. h));
-        ascending = reports-rise t wf e r re;
+        timely = record {
+          selected = λ i. Iff·trans (selected-when t wf e r re i) (Iff·and (pending-is i) (λ h. h, λ h. h));
+          failed = λ i. Iff·trans (failed-when t wf e r re i) (Iff·and (pending-is i) (λ h. h, λ h. h));
+          ascending = reports-rise t wf e r re;
+        };
       }
 
 -- After the end the stream itself decides.
@@ -106,7 +106,9 @@ module _ (t : Table) (wf : WellFormed t) {w : List Event} (r : Whole t w) where
         ruled-out-stays = λ i h. over-fails t w i .0 (λ x. h [] completed (subst (Selects t i) (sym (append-nil w)) x));
         decides = λ i h. earliest.decided t wf i r (h .1);
         never-both = λ i h g. g [] refl (h [] refl);
-        selected = λ i. Iff·trans (end-selected t wf r i) (Iff·and (pending-end i) (over-selects t w i));
-        failed = λ i. Iff·trans (end-failed t wf r i) (Iff·and (pending-end i) (over-fails t w i));
-        ascending = ends-rise t w;
+        timely = record {
+          selected = λ i. Iff·trans (end-selected t wf r i) (Iff·and (pending-end i) (over-selects t w i));
+          failed = λ i. Iff·trans (end-failed t wf r i) (Iff·and (pending-end i) (over-fails t w i));
+          ascending = ends-rise t w;
+        };
       }

@@ -3,16 +3,17 @@
 use mathlib.Core.List.{List, [], _++_}
 use mathlib.Core.Logic.{_↔_, _⊎_, inl, inr, ⊎-elim}
 use mathlib.Core.Path.{_≡_}
-use Prim.Native.Nat.{ℕ, _+_, _*_, _≤_}
+use Prim.Native.Nat.{ℕ, _≤_}
 use native.Mathlib.Decide.{decLe}
 use native.Mathlib.Omega.{arith}
 use Rattle.meaning.specs.Table.{Table}
 use Rattle.meaning.specs.Streams.{positions}
 use Rattle.reports.specs.Reports.{selectedWord, failedWord}
-use Rattle.following.specs.Lists.{In, positionOf, times}
+use Rattle.following.specs.Lists.{In, times}
 use Rattle.following.proofs.Lists.{in-left, in-right, in-cases, in-as, in-nil, times-append, times-none, times-once}
 use Rattle.demands.specs.Watching.{Stream}
 use Rattle.demands.specs.Deciding.{Read, CertainIn, RuledOutIn, AliveIn, Pending}
+use Rattle.demands.proofs.Timely.{word-is}
 use Rattle.demands.proofs.OneEvent.{Decides, Goes, going}
 
 pub record SoFar (t : Table) (s : Stream) (words : List ℕ) : Type 0 where
@@ -20,14 +21,6 @@ pub record SoFar (t : Table) (s : Stream) (words : List ℕ) : Type 0 where
   pub failed : (i : ℕ) → In (failedWord i) words ↔ (Read s i × RuledOutIn t s i)
   pub once : (i : ℕ) → Read s i → CertainIn t s i ⊎ RuledOutIn t s i → times i words ≡ 1
   pub none : (i : ℕ) → (Read s i → AliveIn t s i) → times i words ≡ 0
-
--- A report word of position i says selected or failed.
-word-is : (x i : ℕ) → positionOf x ≡ i → (x ≡ selectedWord i) ⊎ (x ≡ failedWord i)
-word-is x i e = go (decLe (2 * i + 1) x)
-  where
-    go : Dec (2 * i + 1 ≤ x) → (x ≡ selectedWord i) ⊎ (x ≡ failedWord i)
-    go (yes l) = inl (omega (arith, l, e))
-    go (no l) = inr (omega (arith, l, e))
 
 -- No word speaks of a position that neither word does.
 neither-times : (i : ℕ) (words : List ℕ) → ¬ In (selectedWord i) words → ¬ In (failedWord i) words → times i words ≡ 0
@@ -70,12 +63,12 @@ module _ (t : Table) (before after : Stream) (words more : List ℕ) (far : SoFa
   not-pending i r d p = ⊎-elim (p .undecided r .0) (p .undecided r .1) d
 
   not-again : (i : ℕ) → Read before i → CertainIn t before i ⊎ RuledOutIn t before i → times i more ≡ 0
-  not-again i r d = neither-times i more (λ m. not-pending i r d (goes .selected i .0 m .0)) (λ m. not-pending i r d (goes .failed i .0 m .0))
+  not-again i r d = neither-times i more (λ m. not-pending i r d (goes .timely .selected i .0 m .0)) (λ m. not-pending i r d (goes .timely .failed i .0 m .0))
 
   -- One that waited and is decided now is reported once.
   now-once : (i : ℕ) → Pending t before after i → CertainIn t after i ⊎ RuledOutIn t after i → times i more ≡ 1
-  now-once i p (inl h) = times-once i more (goes .ascending) (selectedWord i) (goes .selected i .1 (p, h)) (omega arith)
-  now-once i p (inr h) = times-once i more (goes .ascending) (failedWord i) (goes .failed i .1 (p, h)) (omega arith)
+  now-once i p (inl h) = times-once i more (goes .timely .ascending) (selectedWord i) (goes .timely .selected i .1 (p, h)) (omega arith)
+  now-once i p (inr h) = times-once i more (goes .timely .ascending) (failedWord i) (goes .timely .failed i .1 (p, h)) (omega arith)
 
   -- One verdict and the other one: reported so far are the positions read that have it.
   module _ (word : ℕ → ℕ) (One Other : Stream → ℕ → Type 0) (stays : (i : ℕ) → One before i → One after i) (apart : (i : ℕ) → Other before i → One after i → ⊥)
@@ -100,10 +93,10 @@ module _ (t : Table) (before after : Stream) (words more : List ℕ) (far : SoFa
   so-far-on =
       record {
         selected =
-            with-verdict selectedWord (CertainIn t) (RuledOutIn t) (goes .certain-stays) (λ i b c. goes .never-both i c (goes .ruled-out-stays i b)) (far .selected) (goes .selected)
+            with-verdict selectedWord (CertainIn t) (RuledOutIn t) (goes .certain-stays) (λ i b c. goes .never-both i c (goes .ruled-out-stays i b)) (far .selected) (goes .timely .selected)
             standing;
         failed =
-            with-verdict failedWord (RuledOutIn t) (CertainIn t) (goes .ruled-out-stays) (λ i b c. goes .never-both i (goes .certain-stays i b) c) (far .failed) (goes .failed)
+            with-verdict failedWord (RuledOutIn t) (CertainIn t) (goes .ruled-out-stays) (λ i b c. goes .never-both i (goes .certain-stays i b) c) (far .failed) (goes .timely .failed)
             swapped;
         once = once;
         none = none;
@@ -119,5 +112,5 @@ module _ (t : Table) (before after : Stream) (words more : List ℕ) (far : SoFa
           let waits : Read before i → AliveIn t before i = λ r.
           let a = h (goes .read-stays i r) in
           (λ c. a .0 (goes .certain-stays i c), λ c. a .1 (goes .ruled-out-stays i c)) in
-          let later : times i more ≡ 0 = neither-times i more (λ m. let (p, c) = goes .selected i .0 m in h (p .read) .0 c) (λ m. let (p, c) = goes .failed i .0 m in h (p .read) .1 c) in
+          let later : times i more ≡ 0 = neither-times i more (λ m. let (p, c) = goes .timely .selected i .0 m in h (p .read) .0 c) (λ m. let (p, c) = goes .timely .failed i .0 m in h (p .read) .1 c) in
           omega (arith, times-append i words more, far .none i waits, later)

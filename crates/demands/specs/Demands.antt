@@ -128,16 +128,18 @@ pub record Demand2 (f : List ℕ) (rows depth : ℕ) (s : Watching) : Type 0 whe
 
 ---------------------------------------------------------------- demand 3
 
+-- Words that report each position at the first moment it can: selected exactly if it is certain after the event and waited to be
+-- decided, failed exactly if it is ruled out and waited; ascending.
+pub record Timely (t : Table) (before after : Stream) (words : List ℕ) : Type 0 where
+  pub selected : (i : ℕ) → In (selectedWord i) words ↔ (Pending t before after i × CertainIn t after i)
+  pub failed : (i : ℕ) → In (failedWord i) words ↔ (Pending t before after i × RuledOutIn t after i)
+  pub ascending : Rising (positions (after .events)) 0 (map positionOf words)
+
 -- Of a watch and its next call, where that is taken.
 pub record Demand3 (f : List ℕ) (s : Watching) (c : Call) : Type 0 where
-  -- A position is reported selected exactly if it is certain after the event and waited to be decided; failed, ruled out.
-  pub selected :
-      (i : ℕ) → In (selectedWord i) (given f s c)
-      ↔ (Pending (tableOf f) (s .stream) (called f s c .stream) i × CertainIn (tableOf f) (called f s c .stream) i)
-  pub failed :
-      (i : ℕ) → In (failedWord i) (given f s c)
-      ↔ (Pending (tableOf f) (s .stream) (called f s c .stream) i × RuledOutIn (tableOf f) (called f s c .stream) i)
-  pub ascending : Rising (positions (called f s c .stream .events)) 0 (map positionOf (given f s c))
+  -- What the caller reads is timely, and nothing else is.
+  pub timely : Timely (tableOf f) (s .stream) (called f s c .stream) (given f s c)
+  pub nothing-else : (words : List ℕ) → Timely (tableOf f) (s .stream) (called f s c .stream) words → words ≡ given f s c
   -- The end reports all that are left.
   pub end-reports-all :
       called f s c .stream .ended ≡ true → (i : ℕ) → Read (s .stream) i → AliveIn (tableOf f) (s .stream) i →
