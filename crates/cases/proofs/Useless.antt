@@ -4,7 +4,7 @@ use mathlib.Core.List.{List, [], _∷_}
 use mathlib.Core.Path.{_≡_, refl, sym, ap, _∙_}
 use Prim.Native.Nat.{ℕ, _+_, _<_}
 use native.Mathlib.Omega.{arith}
-use lib.ListN.{getD, length, take}
+use lib.ListN.{getD, set, length, take}
 use Rattle.meaning.specs.Masks.{added, within}
 use Rattle.order.specs.Order.{firstFrom, firstFault}
 use Rattle.answers.specs.declared.Record.{Record}
@@ -19,7 +19,7 @@ use Rattle.demands.specs.Watching.{Watching, countOf, begun, Started, outcomeOf
 use Rattle.demands.proofs.Taking.{step-demand-2}
 use Rattle.cases.specs.Tables.{tableW}
 use Rattle.cases.specs.Cases.{before, calling}
-use Rattle.cases.specs.Useless.{Program, Meets, RefusesStarts, RefusesEvents, ReportsAlways, WritesNoMemory, WritesNoReports, Pretends, SavesAll, positionsIn, MakesUpReports, MakesUpPositions}
+use Rattle.cases.specs.Useless.{Program, Meets, RefusesStarts, RefusesEvents, ReportsAlways, WritesNoMemory, WritesNoReports, IgnoresTable, IgnoresMemory, SavesAll, positionsIn, MakesUpReports, MakesUpPositions}
 
 ---------------------------------------------------------------- two events
 
@@ -44,9 +44,28 @@ module _ (f : List ℕ) where
       × (countOf (outcomeOf f afterOpen (calling 2 33)) ≡ 2)
       × (given f afterOpen (calling 2 33) ≡ 3 ∷ 4 ∷ [])
 
+  -- The table with P(1,1) = 1, and memory in which the state of the open's position is 3: both are in order, and the point reports
+  -- something else.
+  abbrev otherTable : List ℕ
+  otherTable = set f 34 1
+
+  abbrev otherMemory : Watching
+  otherMemory = record { stream = afterOpen .stream; now = afterOpen .now; work = set (afterOpen .work) 14 3; reports = afterOpen .reports }
+
+  abbrev Others : Type 0
+  Others =
+      (outcomeNumber (outcomeOf otherTable afterOpen (calling 2 33)) ≡ 0)
+      × (given otherTable afterOpen (calling 2 33) ≡ 4 ∷ [])
+      × (outcomeNumber (outcomeOf f otherMemory (calling 2 33)) ≡ 0)
+      × (given f otherMemory (calling 2 33) ≡ 2 ∷ 4 ∷ [])
+
 two-events : TwoEvents tableW
 unfolding added within firstFrom firstFault
 two-events = (refl, refl, refl, refl, refl, refl, refl, refl, refl)
+
+others : Others tableW
+unfolding added within firstFrom firstFault
+others = (refl, refl, refl, refl)
 
 ---------------------------------------------------------------- no useless watch
 
@@ -114,11 +133,31 @@ module _ (p : Program) (meets : Meets p) where
       let z : _≡_ {A = ℕ} 3 9 = ap (λ (ws : List ℕ). getD ws 0 0) (sym (two-events .8) ∙ front ∙ lent) in
       omega (arith, z)
 
-  pub pretends-not : ¬ Pretends p
-  pretends-not h =
-      let read : 0 < two .now .positions = omega (arith, two-events .5) in
-      let none = h tableW (two .now) (two .work) (calling 2 33 .lent) 33 read in
-      omega (arith, none, count-is tableW (two .now) (two .work) (calling 2 33 .lent) 33, two-events .7)
+  read : 0 < two .now .positions
+  read = omega (arith, two-events .5)
+
+  -- What the second event is told, with a table and a memory.
+  tells : (f : List ℕ) (work words : List ℕ) (given-is : take (countOf (eventAnswer f (two .now) work (calling 2 33 .lent) 33 .outcome)) (eventReports f (two .now) work (calling 2 33 .lent) 33) ≡ words)
+      (script : List ℕ) → take (countOf (p .event f (two .now) work (calling 2 33 .lent) 33 .outcome)) (p .reports f (two .now) work (calling 2 33 .lent) 33) ≡ script → script ≡ words
+  tells f work words given-is script e = sym e ∙ reads-is f (two .now) work (calling 2 33 .lent) 33 ∙ given-is
+
+  pub looks-at-the-table : (script : Record → List ℕ → ℕ → List ℕ) → ¬ IgnoresTable p script
+  looks-at-the-table script h =
+      let other = otherTable tableW in
+      let said = script (two .now) (two .work) 33 in
+      let one-way = tells tableW (two .work) (3 ∷ 4 ∷ []) (two-events .8) said (h tableW (two .now) (two .work) (calling 2 33 .lent) 33 read (number-is tableW (two .now) (two .work) (calling 2 33 .lent) 33 ∙ two-events .6)) in
+      let other-way = tells other (two .work) (4 ∷ []) (others .1) said (h other (two .now) (two .work) (calling 2 33 .lent) 33 read (number-is other (two .now) (two .work) (calling 2 33 .lent) 33 ∙ others .0)) in
+      let z : _≡_ {A = ℕ} 2 1 = ap length (sym one-way ∙ other-way) in
+      omega (arith, z)
+
+  pub looks-at-memory : (script : List ℕ → Record → ℕ → List ℕ) → ¬ IgnoresMemory p script
+  looks-at-memory script h =
+      let other = otherMemory tableW .work in
+      let said = script tableW (two .now) 33 in
+      let one-way = tells tableW (two .work) (3 ∷ 4 ∷ []) (two-events .8) said (h tableW (two .now) (two .work) (calling 2 33 .lent) 33 read (number-is tableW (two .now) (two .work) (calling 2 33 .lent) 33 ∙ two-events .6)) in
+      let other-way = tells tableW other (2 ∷ 4 ∷ []) (others .3) said (h tableW (two .now) other (calling 2 33 .lent) 33 read (number-is tableW (two .now) other (calling 2 33 .lent) 33 ∙ others .2)) in
+      let z : _≡_ {A = ℕ} 3 2 = ap (λ (ws : List ℕ). getD ws 0 0) (sym one-way ∙ other-way) in
+      omega (arith, z)
 
   pub saves-not : ¬ SavesAll p
   saves-not h =

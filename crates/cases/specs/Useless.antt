@@ -65,11 +65,17 @@ module _ (p : Program) where
 
   ---------------------------------------------------------------- one that pretends, or saves all for the end
 
-  -- Once a position is read it reports no more.
-  abbrev pub Pretends : Type 0
-  Pretends =
-      (f : List ℕ) (r : Record) (work reports : List ℕ) (byte : ℕ) → 0 < r .positions →
-      countOf (p .event f r work reports byte .outcome) ≡ 0
+  -- Once a position is read its reports are a script's, which does not look at the table.
+  abbrev pub IgnoresTable : (Record → List ℕ → ℕ → List ℕ) → Type 0
+  IgnoresTable script =
+      (f : List ℕ) (r : Record) (work reports : List ℕ) (byte : ℕ) → 0 < r .positions → outcomeNumber (p .event f r work reports byte .outcome) ≡ 0 →
+      take (countOf (p .event f r work reports byte .outcome)) (p .reports f r work reports byte) ≡ script r work byte
+
+  -- Or does not look at memory.
+  abbrev pub IgnoresMemory : (List ℕ → Record → ℕ → List ℕ) → Type 0
+  IgnoresMemory script =
+      (f : List ℕ) (r : Record) (work reports : List ℕ) (byte : ℕ) → 0 < r .positions → outcomeNumber (p .event f r work reports byte .outcome) ≡ 0 →
+      take (countOf (p .event f r work reports byte .outcome)) (p .reports f r work reports byte) ≡ script f r byte
 
   -- Only the end reports.
   abbrev pub SavesAll : Type 0
