@@ -13,7 +13,7 @@ use Rattle.answers.specs.declared.Event.{Event}
 use Rattle.answers.specs.declared.Event.the-variants.{Open, Point, Close, End, Unknown}
 use Rattle.answers.specs.Bytes.{meaningOf}
 use Rattle.answers.specs.Answers.{outcomeNumber}
-use Rattle.engine.specs.Calls.{taking, eventAnswer, eventReports}
+use Rattle.engine.specs.Calls.{taking, eventAnswer, eventWork, eventReports, startAnswer, startWork}
 use Rattle.meaning.specs.Table.{Table, tableOf}
 use Rattle.demands.specs.Watching.{Watching, countOf, begun, Started, outcomeOf, given, called}
 use Rattle.demands.proofs.Taking.{step-demand-2}
@@ -68,6 +68,20 @@ unfolding added within firstFrom firstFault
 others = (refl, refl, refl, refl)
 
 ---------------------------------------------------------------- no useless watch
+
+-- There are programs that meet the contracts.
+abbrev pub ours : Program
+ours = record { start = startAnswer; start-work = startWork; event = eventAnswer; work = eventWork; reports = eventReports }
+
+pub ours-meets : Meets ours
+ours-meets =
+    record {
+      start-is = λ f rows depth work. refl;
+      start-work-is = λ f rows depth work. refl;
+      event-is = λ f r work reports byte. refl;
+      work-is = λ f r work reports byte. refl;
+      reports-is = λ f r work reports byte. refl;
+    }
 
 positions-on : (t : Table) (r : Record) (work : List ℕ) (e : Event) → taking t r work e .next .positions ≡ r .positions + positionsIn e
 positions-on t r work (Open a) = refl
