@@ -19,7 +19,7 @@ use Rattle.demands.specs.Watching.{Watching, countOf, begun, Started, outcomeOf
 use Rattle.demands.proofs.Taking.{step-demand-2}
 use Rattle.cases.specs.Tables.{tableW}
 use Rattle.cases.specs.Cases.{before, calling}
-use Rattle.cases.specs.Useless.{Program, Meets, RefusesStarts, RefusesEvents, ReportsAlways, WritesNoMemory, WritesNoReports, IgnoresTable, IgnoresMemory, SavesAll, positionsIn, MakesUpReports, MakesUpPositions}
+use Rattle.cases.specs.Useless.{Program, Meets, RefusesStarts, RefusesEvents, ReportsAlways, WritesNoMemory, WritesNoReports, IgnoresTable, IgnoresMemory, SavesAll, positionsIn, TakenCall, MakesUpReports, MakesUpPositions}
 
 ---------------------------------------------------------------- two events
 
@@ -178,15 +178,18 @@ module _ (p : Program) (meets : Meets p) where
       let none = h tableW (two .now) (two .work) (calling 2 33 .lent) 33 (λ e. omega (arith, e)) in
       omega (arith, none, count-is tableW (two .now) (two .work) (calling 2 33 .lent) 33, two-events .7)
 
+  -- A taken call of it is one of the contract's.
+  taken-too : (x : TakenCall p) → outcomeNumber (eventAnswer (x .f) (x .r) (x .work) (x .reports) (x .byte) .outcome) ≡ 0
+  taken-too x = sym (number-is (x .f) (x .r) (x .work) (x .reports) (x .byte)) ∙ x .taken
+
   pub counts-reports : ¬ MakesUpReports p
-  counts-reports m =
-      let taken = sym (number-is (m .f) (m .r) (m .work) (m .reports) (m .byte)) ∙ m .taken in
-      m .differs (count-is (m .f) (m .r) (m .work) (m .reports) (m .byte) ∙ step-demand-2 (m .f) (m .r) (m .work) (m .reports) (m .byte) taken .counted)
+  counts-reports (x, differs) =
+      differs
+      (count-is (x .f) (x .r) (x .work) (x .reports) (x .byte) ∙ step-demand-2 (x .f) (x .r) (x .work) (x .reports) (x .byte) (taken-too x) .counted)
 
   pub counts-positions : ¬ MakesUpPositions p
-  counts-positions m =
-      let taken = sym (number-is (m .f) (m .r) (m .work) (m .reports) (m .byte)) ∙ m .taken in
-      m .differs
-      (ap (λ (x : Answer). x .next .positions) (meets .event-is (m .f) (m .r) (m .work) (m .reports) (m .byte))
-      ∙ ap (λ (x : Record). x .positions) (step-demand-2 (m .f) (m .r) (m .work) (m .reports) (m .byte) taken .next)
-      ∙ positions-on (tableOf (m .f)) (m .r) (m .work) (meaningOf (m .byte)))
+  counts-positions (x, differs) =
+      differs
+      (ap (λ (y : Answer). y .next .positions) (meets .event-is (x .f) (x .r) (x .work) (x .reports) (x .byte))
+      ∙ ap (λ (y : Record). y .positions) (step-demand-2 (x .f) (x .r) (x .work) (x .reports) (x .byte) (taken-too x) .next)
+      ∙ positions-on (tableOf (x .f)) (x .r) (x .work) (meaningOf (x .byte)))

@@ -84,22 +84,23 @@ module _ (p : Program) where
 
   ---------------------------------------------------------------- one that makes up counts
 
-  -- For some taken event the number of reports is not that of the step.
-  pub record MakesUpReports : Type 0 where
+  -- An event call that is taken.
+  pub record TakenCall : Type 0 where
     pub f : List ℕ
     pub r : Record
     pub work : List ℕ
     pub reports : List ℕ
     pub byte : ℕ
     pub taken : outcomeNumber (p .event f r work reports byte .outcome) ≡ 0
-    pub differs : ¬ (countOf (p .event f r work reports byte .outcome) ≡ length (eventAfter f r work byte .reports))
+
+  -- For some taken event the number of reports is not that of the step.
+  abbrev pub MakesUpReports : Type 0
+  MakesUpReports =
+      (x : TakenCall)
+      × (¬ (countOf (p .event (x .f) (x .r) (x .work) (x .reports) (x .byte) .outcome) ≡ length (eventAfter (x .f) (x .r) (x .work) (x .byte) .reports)))
 
   -- For some taken event the number of positions does not go on by the event's.
-  pub record MakesUpPositions : Type 0 where
-    pub f : List ℕ
-    pub r : Record
-    pub work : List ℕ
-    pub reports : List ℕ
-    pub byte : ℕ
-    pub taken : outcomeNumber (p .event f r work reports byte .outcome) ≡ 0
-    pub differs : ¬ (p .event f r work reports byte .next .positions ≡ r .positions + positionsIn (meaningOf byte))
+  abbrev pub MakesUpPositions : Type 0
+  MakesUpPositions =
+      (x : TakenCall)
+      × (¬ (p .event (x .f) (x .r) (x .work) (x .reports) (x .byte) .next .positions ≡ x .r .positions + positionsIn (meaningOf (x .byte))))
