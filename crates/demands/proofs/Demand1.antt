@@ -16,7 +16,7 @@ use Rattle.judge.specs.declared.Judged.{Judged}
 use Rattle.judge.specs.declared.Judged.the-variants.{Fine, Refused}
 use Rattle.judge.specs.Judging.{judgedNumber, startLines}
 use Rattle.engine.specs.Calls.{After, lines, answerOf, eventJudged, eventAfter, startJudged, startAfter}
-use Rattle.engine.proofs.Numbers.{event-exactly, event-taken, refused-keeps, start-exactly, start-taken, start-refused-keeps}
+use Rattle.engine.proofs.Numbers.{answer-number, event-exactly, event-taken, refused-keeps, start-exactly, start-taken, start-refused-keeps}
 use Rattle.demands.specs.Watching.{countOf}
 use Rattle.demands.specs.Demands.{Demand1, StartDemand1}
 use Rattle.demands.proofs.FirstWrong.{place-is}
@@ -38,8 +38,7 @@ given-below k (l ∷ ls) h =
     go false first later = later
 
 answer-below : (k : ℕ) (j : Judged) (r : Record) (after : After) → judgedNumber j < k → outcomeNumber (answerOf j r after .outcome) < k
-answer-below k Fine r after h = h
-answer-below k (Refused why) r after h = h
+answer-below k j r after h = rw (answer-number j r after) h
 
 none-counted : (j : Judged) (r : Record) (after : After) → 0 < outcomeNumber (answerOf j r after .outcome) → countOf (answerOf j r after .outcome) ≡ 0
 none-counted Fine r after h = absurd (omega (arith, h))

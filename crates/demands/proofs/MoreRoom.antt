@@ -27,11 +27,11 @@ use Rattle.answers.specs.declared.Outcome.the-variants.{Taken}
 use Rattle.answers.specs.declared.Refusal.{Refusal}
 use Rattle.answers.specs.declared.Refusal.the-variants as why
 use Rattle.answers.specs.Bytes.{meaningOf}
-use Rattle.answers.specs.Answers.{outcomeNumber}
 use Rattle.judge.specs.declared.Judged.{Judged}
 use Rattle.judge.specs.declared.Judged.the-variants.{Fine, Refused}
 use Rattle.judge.specs.Judging.{refuses, judgedNumber, eventLines, opensTooDeep, closesNothing, endsOpen, outOfPositions}
 use Rattle.engine.specs.Calls.{After, memoryOf, stepped, taking, rowsLines, lines, answerOf}
+use Rattle.engine.proofs.Numbers.{answer-number}
 use Rattle.following.specs.Following.{memoryAfter}
 use Rattle.demands.specs.Watching.{Call, Stream, Watching, longer, Started, begun, linesOf, outcomeOf, given, toldAll, called}
 use Rattle.demands.specs.Room.{Alike, NoWant, SameAnswers}
@@ -226,21 +226,13 @@ module _ (f : List ℕ) (rows depth rows′ depth′ : ℕ) (more-rows : rows �
       go Fine e = taken-same e (sym (same-judged h) ∙ e)
       go (Refused reason) e = refused-same reason e (sym (same-judged h) ∙ e)
 
--- An outcome has the number of its judgement.
-number-of : (f : List ℕ) (s : Watching) (c : Call) → outcomeNumber (outcomeOf f s c) ≡ judgedNumber (judgedOf f s c)
-number-of f s c = go (judgedOf f s c)
-  where
-    go : (j : Judged) → outcomeNumber (answerOf j (s .now) (afterOf f s c) .outcome) ≡ judgedNumber j
-    go Fine = refl
-    go (Refused reason) = refl
-
 module _ (f : List ℕ) (rows depth rows′ depth′ : ℕ) (more-rows : rows ≤ rows′) (more-depth : depth ≤ depth′) where
   calls-same :
       (cs cs′ : List Call) → Alike rows rows′ cs cs′ → (s s′ : Watching) → Beside f rows depth rows′ depth′ s s′ → NoWant (toldAll f s cs) →
       SameAnswers f s s′ cs cs′
   calls-same [] [] room.none s s′ beside free = record { same-told = refl; same-stream = beside .same-stream; same-reports = beside .same-told }
   calls-same (c ∷ cs) (c′ ∷ cs′) (room.over byte-same lent-same alike) s s′ beside (room.over not-deep not-rows free) =
-      let n = number-of f s c in
+      let n = answer-number (judgedOf f s c) (s .now) (afterOf f s c) in
       let x = next-same f rows depth rows′ depth′ more-rows more-depth s s′ beside c c′ byte-same lent-same (⊎-elim (λ e. not-deep (n ∙ e)) (λ e. not-rows (n ∙ e))) in
       let rest = calls-same cs cs′ alike (called f s c) (called f s′ c′) (x .2) free in
       record {

@@ -28,7 +28,7 @@ use Rattle.engine.specs.Calls.{startJudged, startAfter, startAnswer, sta
 use Rattle.engine.proofs.Taking.{judged-passes}
 
 -- An answer has the number of its judgement.
-answer-number : (j : Judged) (r : Record) (after : After) → outcomeNumber (answerOf j r after .outcome) ≡ judgedNumber j
+pub answer-number : (j : Judged) (r : Record) (after : After) → outcomeNumber (answerOf j r after .outcome) ≡ judgedNumber j
 answer-number Fine r after = refl
 answer-number (Refused why) r after = refl
 
