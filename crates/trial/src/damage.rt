@@ -1,0 +1,283 @@
+// The same call with a damage beside it: in the file, the record, the memory or a length.
+//
+// The second evaluator says by which of 1 to 14 the call has to be refused, and with which place. Where it says none, memory
+// that no run left may be stepped as it stands: then the watch takes the call, or refuses it by 15.
+use crate::memory;
+use crate::tally;
+use engine::Outcome;
+use engine::Record;
+use engine::Refusal;
+use making::between;
+use making::draw;
+use second::Claim;
+
+// What is damaged: bits of a byte of the file, bits of a word of memory, how much is cut off the file, the memory and the
+// reports, and the record.
+struct Harm {
+    file_at: usize,
+    file_bits: u8,
+    file_cut: usize,
+    word_at: usize,
+    word_bits: u64,
+    work_cut: usize,
+    reports_cut: usize,
+    record: Record,
+}
+
+impl Harm {
+    fn none(record: Record) -> Harm {
+        Harm {
+            file_at: 0,
+            file_bits: 0,
+            file_cut: 0,
+            word_at: 0,
+            word_bits: 0,
+            work_cut: 0,
+            reports_cut: 0,
+            record: record,
+        }
+    }
+
+    // A byte of the file, of a part of it.
+    fn of_file(mut self, desk: &mut [u64], from: usize, to: usize) -> Harm {
+        self.file_at = between(desk, from, to);
+        self.file_bits = (draw(desk, 255) % 255 + 1) as u8;
+        self
+    }
+
+    fn of_length(mut self, desk: &mut [u64], file: usize, reports: usize) -> Harm {
+        match draw(desk, 3) {
+            0 => self.file_cut = draw(desk, file),
+            1 => self.work_cut = 1,
+            _ => self.reports_cut = draw(desk, reports),
+        }
+        self
+    }
+
+    // A word of memory: one bit of it, a high one or one of the lowest.
+    fn of_word(mut self, desk: &mut [u64], work: usize) -> Harm {
+        self.word_at = draw(desk, work);
+        self.word_bits = 1 << (draw(desk, 4) % 4);
+        if draw(desk, 8) == 0 {
+            self.word_bits = 1 << 63;
+        }
+        self
+    }
+}
+
+// The record with a size or a count that is another, or finished where it was not.
+fn harm_record(desk: &mut [u64], was: Record) -> Record {
+    let mut r = was;
+    let x = (draw(desk, 70) % 70) as u64;
+    match draw(desk, 6) {
+        0 => r.rows = x,
+        1 => r.allowed = x,
+        2 => r.depth = x,
+        3 => r.alive = x,
+        4 => r.positions = 2147483600 + x,
+        _ => r.finished = !was.finished,
+    }
+    r
+}
+
+fn draw_harm(desk: &mut [u64], file: usize, work: usize, reports: usize, record: Record) -> Harm {
+    let none = Harm::none(record);
+    match draw(desk, 8) {
+        0 => none.of_file(desk, 0, 3),
+        1 => none.of_file(desk, 4, 28),
+        2 => none.of_file(desk, 29, file),
+        3 => none.of_length(desk, file, reports),
+        4 => Harm::none(harm_record(desk, record)),
+        5 => none,
+        _ => none.of_word(desk, work),
+    }
+}
+
+pub fn claim_of(r: Record) -> Claim {
+    Claim {
+        rows: r.rows,
+        allowed: r.allowed,
+        depth: r.depth,
+        alive: r.alive,
+        positions: r.positions,
+        finished: r.finished,
+    }
+}
+
+pub fn is_record(r: Record, claim: Claim) -> bool {
+    (r.rows == claim.rows)
+        & (r.allowed == claim.allowed)
+        & (r.depth == claim.depth)
+        & (r.alive == claim.alive)
+        & (r.positions == claim.positions)
+        & (r.finished == claim.finished)
+}
+
+// The place of a refusal 7, and 0 of every other outcome.
+fn place_of(outcome: Outcome) -> u64 {
+    match outcome {
+        Outcome::Taken(_) => 0,
+        Outcome::Refused(why) => match why {
+            Refusal::Order(place) => place,
+            _ => 0,
+        },
+    }
+}
+
+// An event call that was refused kept its record, and wrote no reports.
+fn is_kept(record: Record, next: Record, reports: &[u32]) -> bool {
+    is_record(next, claim_of(record)) & memory::reports_are(reports, &[], 0)
+}
+
+// The call itself. Answers whether it was taken.
+fn call(
+    file: &[u8],
+    record: Record,
+    work: &mut [u64],
+    reports: &mut [u32],
+    desk: &mut [u64],
+    byte: u8,
+) -> bool {
+    let must = second::call_refusal(file, claim_of(record), work, reports.len(), byte as usize);
+    memory::blank(reports);
+    let answer = engine::event(file, record, work, reports, byte);
+    let outcome = answer.outcome;
+    let number = outcome.number();
+    let taken = number == 0;
+    let named = (number == must.number) | (number == 15) & (must.number == 0);
+    let placed = place_of(outcome) == must.place as u64;
+    let kept = taken | is_kept(record, answer.next, reports);
+    tally::note(desk, tally::EVENTS, number, named & placed & kept);
+    taken
+}
+
+// The call on parts of the slices.
+fn call_cut(
+    file: &[u8],
+    work: &mut [u64],
+    reports: &mut [u32],
+    desk: &mut [u64],
+    byte: u8,
+    harm: Harm,
+) -> bool {
+    let bytes = slices::minus(file.len(), harm.file_cut);
+    let length = slices::minus(work.len(), harm.work_cut);
+    let room = slices::minus(reports.len(), harm.reports_cut);
+    let record = harm.record;
+    call(
+        &file[..bytes],
+        record,
+        &mut work[..length],
+        &mut reports[..room],
+        desk,
+        byte,
+    )
+}
+
+fn flip(s: &mut [u8], at: usize, bits: u8) {
+    if at < s.len() {
+        s[at] = s[at] ^ bits;
+    }
+}
+
+fn flip_word(s: &mut [u64], at: usize, bits: u64) {
+    if at < s.len() {
+        s[at] = s[at] ^ bits;
+    }
+}
+
+// The damage to the file and the memory; done twice, it is undone.
+fn flip_both(file: &mut [u8], work: &mut [u64], harm: Harm) {
+    flip(file, harm.file_at, harm.file_bits);
+    flip_word(work, harm.word_at, harm.word_bits);
+}
+
+// The call with the damage, which is undone then.
+fn call_damaged(
+    file: &mut [u8],
+    work: &mut [u64],
+    reports: &mut [u32],
+    desk: &mut [u64],
+    byte: u8,
+    harm: Harm,
+) -> bool {
+    flip_both(file, work, harm);
+    let taken = call_cut(file, work, reports, desk, byte, harm);
+    flip_both(file, work, harm);
+    taken
+}
+
+// A damaged call on a copy of the memory; where it is refused, the copy is as it was.
+pub fn try_damaged(
+    file: &mut [u8],
+    work: &[u64],
+    reports: &mut [u32],
+    desk: &mut [u64],
+    record: Record,
+    byte: u8,
+) {
+    let harm = draw_harm(desk, file.len(), work.len(), reports.len(), record);
+    let mut copy = memory::copy_of(work);
+    let taken = call_damaged(
+        file,
+        slices::front_words(&mut copy, work.len()),
+        reports,
+        desk,
+        byte,
+        harm,
+    );
+    let kept = taken | slices::same(work, &copy);
+    tally::add(desk, tally::DIFFERED, !kept as u64);
+}
+
+// The start call, against what the second evaluator says of it. Answers the record.
+pub fn start(file: &[u8], rows: u64, depth: u64, work: &mut [u64], desk: &mut [u64]) -> Record {
+    let must = second::start_refusal(file, rows, depth, work.len());
+    let copy = memory::copy_of(work);
+    let answer = engine::start(file, rows, depth, work);
+    let outcome = answer.outcome;
+    let number = outcome.number();
+    let kept = (number == 0) | slices::same(work, &copy);
+    let begun = if number == 0 {
+        second::begin(rows, depth, 0, 0, 0)
+    } else {
+        second::begin(0, 0, 0, 0, 0)
+    };
+    let is_first = is_record(answer.next, begun.claim);
+    tally::note(
+        desk,
+        tally::STARTS,
+        number,
+        (number == must) & kept & is_first,
+    );
+    answer.next
+}
+
+// The start on parts of the slices, with the rows and depth of the record.
+fn start_cut(file: &[u8], work: &mut [u64], desk: &mut [u64], harm: Harm) {
+    let bytes = slices::minus(file.len(), harm.file_cut);
+    let length = slices::minus(work.len(), harm.work_cut);
+    let sizes = harm.record;
+    start(
+        &file[..bytes],
+        sizes.rows,
+        sizes.allowed,
+        &mut work[..length],
+        desk,
+    );
+}
+
+// Rows and a depth allowed that may be out of range.
+fn draw_sizes(desk: &mut [u64]) -> Record {
+    let rows = draw(desk, 67) as u64;
+    Record::started(rows, draw(desk, 43) as u64)
+}
+
+// A start with rows and a depth that are drawn, and with a damage.
+pub fn try_start(file: &mut [u8], work: &mut [u64], desk: &mut [u64]) {
+    let sizes = draw_sizes(desk);
+    let harm = draw_harm(desk, file.len(), work.len(), 1, sizes);
+    flip_both(file, work, harm);
+    start_cut(file, work, desk, harm);
+    flip_both(file, work, harm);
+}

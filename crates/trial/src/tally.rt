@@ -1,0 +1,59 @@
+// What was compared, in words of the desk: at 0 to 15 the refusals of each number (0: taken), then tables, starts, events,
+// reports, and what differed.
+use libc::STDOUT_FILENO;
+use slices::put_word;
+use slices::word;
+
+pub const TABLES: usize = 16;
+
+pub const STARTS: usize = 17;
+
+pub const EVENTS: usize = 18;
+
+pub const REPORTS: usize = 19;
+
+pub const DIFFERED: usize = 20;
+
+pub fn add(desk: &mut [u64], at: usize, more: u64) {
+    let before = word(desk, at);
+    if before <= u64::MAX - more {
+        put_word(desk, at, before + more);
+    }
+}
+
+// One comparison more of a kind, and how it went.
+pub fn note(desk: &mut [u64], kind: usize, number: u64, alike: bool) {
+    add(desk, kind, 1);
+    add(desk, (number % 16) as usize, 1);
+    add(desk, DIFFERED, !alike as u64);
+}
+
+fn say(words: &[u8], x: u64) {
+    io::write_all(STDOUT_FILENO, words);
+    io::print_decimal(STDOUT_FILENO, x);
+    io::write_all(STDOUT_FILENO, b"\n");
+}
+
+fn say_refusal(number: usize, x: u64) {
+    io::write_all(STDOUT_FILENO, b"refused ");
+    io::print_decimal(STDOUT_FILENO, number as u64);
+    say(b": ", x);
+}
+
+fn say_refusals(desk: &[u64]) {
+    let mut i = 1;
+    while i < 16 {
+        say_refusal(i, word(desk, i));
+        i += 1;
+    }
+}
+
+pub fn say_all(desk: &[u64]) {
+    say(b"tables ", word(desk, TABLES));
+    say(b"starts ", word(desk, STARTS));
+    say(b"events ", word(desk, EVENTS));
+    say(b"reports ", word(desk, REPORTS));
+    say(b"taken ", word(desk, 0));
+    say_refusals(desk);
+    say(b"differed ", word(desk, DIFFERED));
+}
