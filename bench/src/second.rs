@@ -1,0 +1,201 @@
+//! The second evaluator: it decides by the meaning of completions, without safe sets, rows or work memory.
+//!
+//! It keeps the whole stream. The run marked at a position is worked out from the stream's first byte at every event: a stack of
+//! states, one for each open level. Which states some hedge leads to from a state is found by saturation. From the newest level
+//! down to level 0 it works out the end states that some completion reaches: a position is certain if all of them are final,
+//! ruled out if none is.
+//!
+//! Assumed: the file is a table, and the watch was started with these rows and this depth.
+
+pub struct Second<'a> {
+    file: &'a [u8],
+    n: usize,
+    k: usize,
+    rows: usize,
+    depth: usize,
+    /// For each state, the states that some hedge leads to from it.
+    hedges: Vec<u64>,
+    /// The bytes that were taken.
+    stream: Vec<u8>,
+    /// The positions that no event has decided yet.
+    doubt: Vec<u64>,
+}
+
+impl<'a> Second<'a> {
+    pub fn new(file: &'a [u8], rows: u64, depth: u64) -> Second<'a> {
+        let (n, k) = (file[0] as usize, file[1] as usize);
+        let mut second = Second {
+            file,
+            n,
+            k,
+            rows: rows as usize,
+            depth: depth as usize,
+            hedges: (0..n).map(|q| 1 << q).collect(),
+            stream: vec![],
+            doubt: vec![],
+        };
+        second.saturate();
+        second
+    }
+
+    fn opening(&self, a: usize) -> usize {
+        self.file[29 + a] as usize
+    }
+
+    fn point(&self, q: usize, a: usize) -> usize {
+        self.file[29 + self.k + q * self.k + a] as usize
+    }
+
+    fn mark(&self, q: usize) -> usize {
+        self.file[29 + self.k * (1 + self.n) + q] as usize
+    }
+
+    /// A(q,p): q waited outside, p is the closing tree's last state.
+    fn apply(&self, q: usize, p: usize) -> usize {
+        self.file[29 + self.k * (1 + self.n) + self.n * (1 + q) + p] as usize
+    }
+
+    fn is_final(&self, q: usize) -> bool {
+        self.file[29 + self.k * (1 + self.n) + self.n * (1 + self.n) + q] == 1
+    }
+
+    /// Adds pairs until none is left to add: a hedge may be empty, and may go on with a point or with a tree, which is an open,
+    /// a hedge and a close.
+    fn saturate(&mut self) {
+        loop {
+            let trees = (0..self.k).fold(0, |all, a| all | self.hedges[self.opening(a)]);
+            let mut more = self.hedges.clone();
+            for q in 0..self.n {
+                for p in states(self.hedges[q]) {
+                    for a in 0..self.k {
+                        more[q] |= 1 << self.point(p, a);
+                    }
+                    for last in states(trees) {
+                        more[q] |= 1 << self.apply(p, last);
+                    }
+                }
+            }
+            if more == self.hedges {
+                return;
+            }
+            self.hedges = more;
+        }
+    }
+
+    /// The stack of the run marked at a position; at 0, of the run without a mark.
+    fn run(&self, marked: u64) -> Vec<usize> {
+        let mut stack = vec![self.file[2] as usize];
+        let mut position = 0;
+        for &byte in &self.stream {
+            let q = stack.pop().unwrap();
+            if byte == 64 {
+                let outside = stack.pop().unwrap();
+                stack.push(self.apply(outside, q));
+                continue;
+            }
+            if byte < 32 {
+                stack.push(q);
+                stack.push(self.opening(byte as usize));
+            } else {
+                stack.push(self.point(q, byte as usize - 32));
+            }
+            position += 1;
+            if position == marked {
+                let newest = stack.pop().unwrap();
+                stack.push(self.mark(newest));
+            }
+        }
+        stack
+    }
+
+    /// The states in which some completion ends the run that has come to this stack.
+    fn ends(&self, stack: &[usize]) -> u64 {
+        let (newest, outer) = stack.split_last().unwrap();
+        let mut reached = self.hedges[*newest];
+        for &q in outer.iter().rev() {
+            let closed: u64 = states(reached).fold(0, |all, p| all | 1 << self.apply(q, p));
+            reached = states(closed).fold(0, |all, p| all | self.hedges[p]);
+        }
+        reached
+    }
+
+    /// Certain: true; ruled out: false; alive: nothing.
+    fn verdict(&self, position: u64) -> Option<bool> {
+        let ends = self.ends(&self.run(position));
+        let finals = states(ends).filter(|&q| self.is_final(q)).count() as u32;
+        match finals {
+            0 => Some(false),
+            all if all == ends.count_ones() => Some(true),
+            _ => None,
+        }
+    }
+
+    fn depth_now(&self) -> usize {
+        let opens = self.stream.iter().filter(|&&b| b < 32).count();
+        opens - self.stream.iter().filter(|&&b| b == 64).count()
+    }
+
+    fn positions(&self) -> u64 {
+        self.stream.iter().filter(|&&b| b < 64).count() as u64
+    }
+
+    fn has_ended(&self) -> bool {
+        self.stream.last() == Some(&65)
+    }
+
+    /// The record that a watch has now.
+    pub fn record(&self) -> [u64; 6] {
+        let numbers = [self.rows, self.depth, self.depth_now(), self.doubt.len()];
+        let [rows, depth, now, alive] = numbers.map(|x| x as u64);
+        [rows, depth, now, alive, self.positions(), self.has_ended() as u64]
+    }
+
+    /// One byte: the reports that have to come at it, or the refusal, of 8 to 15.
+    pub fn event(&mut self, byte: u8) -> Result<Vec<u32>, u64> {
+        if self.has_ended() {
+            return Err(8);
+        }
+        let depth = self.depth_now();
+        match byte {
+            66.. => return Err(9),
+            0..=63 if byte as usize % 32 >= self.k => return Err(10),
+            64 if depth == 0 => return Err(11),
+            0..=31 if depth == self.depth => return Err(12),
+            65 if depth > 0 => return Err(13),
+            _ => {}
+        }
+        if byte == 65 {
+            let told = self.doubt.drain(..).collect::<Vec<_>>();
+            let told = told.iter().map(|&i| report(i, self.is_final(self.run(i)[0]))).collect();
+            self.stream.push(65);
+            return Ok(told);
+        }
+        self.stream.push(byte);
+        let mut asked = self.doubt.clone();
+        if byte < 64 {
+            asked.push(self.positions());
+        }
+        let mut told = vec![];
+        let mut doubt = vec![];
+        for position in asked {
+            match self.verdict(position) {
+                Some(selected) => told.push(report(position, selected)),
+                None => doubt.push(position),
+            }
+        }
+        if doubt.len() > self.rows {
+            self.stream.pop();
+            return Err(15);
+        }
+        self.doubt = doubt;
+        Ok(told)
+    }
+}
+
+fn report(position: u64, selected: bool) -> u32 {
+    2 * position as u32 + selected as u32
+}
+
+fn states(set: u64) -> impl Iterator<Item = usize> {
+    (0..64).filter(move |q| (set >> q) & 1 == 1)
+}

@@ -1,0 +1,371 @@
+//! The tests: the library against the second evaluator and against the rules read to the letter, on inputs that are valid,
+//! damaged, in order or not. Exit status 1 at any difference, or if a refusal's number was never seen.
+//!
+//! Assumed: nothing of the library but its two signatures.
+
+mod compare;
+#[cfg(stand_in)]
+mod expert;
+mod inputs;
+mod link;
+mod rules;
+mod second;
+#[cfg(stand_in)]
+mod stand_in;
+
+use compare::{event, run, start, Lent, Tally, OLD};
+use inputs::{Chance, Way, WAYS};
+use rules::Table;
+use second::Second;
+use std::process::ExitCode;
+
+/// 01's worked cases, with the numbers that stand there.
+fn worked_cases(t: &mut Tally) {
+    let (w, l) = (inputs::table_w(), inputs::table_l());
+    let (tw, tl) = (rules::read(&w), rules::read(&l));
+    t.tables += 2;
+    t.same("W's length", "01", &w.len(), &76);
+    t.same("L's length", "01", &l.len(), &48);
+    {
+        let w = tw.as_ref().ok().unwrap();
+        let mask = |set: &[bool]| (0..w.n).filter(|&q| set[q]).map(|q| 1u64 << q).sum::<u64>();
+        t.same("case 1", "01", &mask(&w.trees), &0b10001);
+        t.same("case 2", "01", &mask(&w.acc[1]), &0b110);
+        let downs = [w.down(0, 4), w.down(0, 25), w.down(1, 25), w.down(2, 4)];
+        t.same("cases 4 to 6", "01", &downs, &[4, 25, 8, 21]);
+    }
+    let (left, work) = start(t, &w, &tw, 1, 1, &[OLD; 14]);
+    t.same("case 3", "01", &(left.number, &work[..4]), &(0, &[0, 0, 4, 25][..]));
+    let cases: [(&str, u64, u64, &[u8], &[u64], &[&[u32]]); 10] = [
+        ("7", 64, 40, &[0, 33], &[0, 0], &[&[], &[3, 4]]),
+        ("8", 1, 40, &[0, 0, 33], &[0, 15, 0], &[&[], &[], &[3, 4]]),
+        ("9, L", 1, 40, &[32, 32, 65], &[0, 0, 0], &[&[], &[2], &[5]]),
+        ("10, L", 1, 40, &[0, 32], &[0, 0], &[&[2], &[4]]),
+        ("11", 64, 40, &[65, 65], &[0, 8], &[&[], &[]]),
+        ("12", 64, 1, &[0, 0], &[0, 12], &[&[], &[]]),
+        ("12", 64, 40, &[64], &[11], &[&[]]),
+        ("12", 64, 40, &[0, 65], &[0, 13], &[&[], &[]]),
+        ("12", 64, 40, &[2, 66], &[10, 9], &[&[], &[]]),
+        ("the program's", 64, 40, &[0, 33, 0, 64, 64, 65], &[0; 6], &[&[], &[3, 4], &[], &[6], &[], &[]]),
+    ];
+    for (name, rows, depth, bytes, numbers, reports) in cases {
+        let (file, table) = if name.ends_with('L') { (&l, &tl) } else { (&w, &tw) };
+        let mut rest = bytes.iter().copied();
+        run(t, file, table, (rows, depth), |_| rest.next());
+        let (first, mut work) = start(t, file, table, rows, depth, &vec![7; rules::work_length(rows, depth) as usize]);
+        let mut record = first.record;
+        for (i, &byte) in bytes.iter().enumerate() {
+            let after = event(t, file, table, record, &mut work, rows as usize + 1, byte);
+            let meant = if numbers[i] == 0 { Ok(reports[i].to_vec()) } else { Err(numbers[i]) };
+            t.same(&format!("case {name}"), "01", &after.said, &meant);
+            record = after.record;
+        }
+    }
+}
+
+/// A random stream on a table: so many bytes, then often closes and an end, then some bytes after it.
+fn random_run(t: &mut Tally, c: &mut Chance, file: &[u8], table: &Result<Table, u64>, sizes: (u64, u64), bytes: u64) {
+    let mut way = c.pick(&WAYS);
+    let (mut left, mut after) = (bytes, c.below(3));
+    let ends = !c.one_in(4);
+    run(t, file, table, sizes, |record| {
+        if record[5] == 1 {
+            after = after.wrapping_sub(1);
+            return (after < 3).then(|| c.pick(&[0, 32, 64, 65, 66, 31, 255]));
+        }
+        if left == 0 {
+            return ends.then_some(if record[2] > 0 { 64 } else { 65 });
+        }
+        left -= 1;
+        if c.one_in(20) {
+            way = c.pick(&WAYS);
+        }
+        Some(inputs::next_byte(c, way, file[1] as usize))
+    });
+}
+
+/// Streams on tables of many kinds, from the start.
+fn runs(t: &mut Tally, c: &mut Chance) {
+    for i in 0..3600 {
+        let (n, k) = match i % 50 {
+            0 => (64, 32),
+            1 => (1, 1),
+            2 => (c.between(9, 63) as usize, c.between(1, 32) as usize),
+            3 => (64, c.between(1, 3) as usize),
+            4 => (c.between(1, 3) as usize, 32),
+            _ => (c.between(1, 8) as usize, c.between(1, 4) as usize),
+        };
+        let file = match i % 40 {
+            10 => inputs::table_w(),
+            11 => inputs::table_l(),
+            _ => inputs::random_table(c, n, k),
+        };
+        let table = rules::read(&file);
+        t.tables += 1;
+        for _ in 0..2 {
+            let sizes = inputs::sizes(c);
+            let bytes = if n > 8 { c.between(5, 40) } else { c.between(1, 60) };
+            random_run(t, c, &file, &table, sizes, bytes);
+        }
+    }
+    // Long and deep ones, with every row.
+    for i in 0..60 {
+        let file = match i % 3 {
+            0 => inputs::table_w(),
+            1 => inputs::random_table(c, 6, 3),
+            _ => inputs::random_table(c, 12, 4),
+        };
+        let table = rules::read(&file);
+        t.tables += 1;
+        let rows = c.pick(&[1, 2, 8, 64]);
+        random_run(t, c, &file, &table, (rows, 40), 300);
+    }
+}
+
+/// What the program writes for a stream, by the second evaluator.
+fn lines(file: &[u8], stream: &[u8]) -> String {
+    let mut second = Second::new(file, 64, 40);
+    let mut text = String::from("event verdict position\n");
+    for (i, &byte) in stream.iter().enumerate() {
+        match second.event(byte) {
+            Err(number) => return text + &format!("refused {number} at {}\n", i + 1),
+            Ok(told) => {
+                for report in told {
+                    let verdict = if report % 2 == 1 { "selected" } else { "failed" };
+                    text += &format!("{} {verdict} {}\n", i + 1, report / 2);
+                }
+            }
+        }
+        let positions = second.record()[4];
+        if byte == 65 {
+            return text + &format!("end {} events {positions} positions\n", i + 1);
+        }
+    }
+    text + &format!("cut {} events {} positions\n", stream.len(), second.record()[4])
+}
+
+/// The tables of examples/, and of each its stream, with 64 rows and depth 40, and its lines; then random streams.
+fn examples(t: &mut Tally, c: &mut Chance) -> u64 {
+    let Ok(folders) = std::fs::read_dir("examples") else { return 0 };
+    let mut folders: Vec<_> = folders.flatten().map(|e| e.path()).filter(|p| p.join("table").is_file()).collect();
+    folders.sort();
+    for folder in &folders {
+        let file = std::fs::read(folder.join("table")).unwrap();
+        let table = rules::read(&file);
+        t.tables += 1;
+        if table.is_err() {
+            start(t, &file, &table, 64, 40, &[OLD; 8060]);
+            continue;
+        }
+        let stream = std::fs::read(folder.join("stream")).unwrap_or_default();
+        if let Ok(meant) = std::fs::read_to_string(folder.join("lines")) {
+            t.same(&format!("lines of {}", folder.display()), "the example", &lines(&file, &stream), &meant);
+        }
+        let mut rest = stream.iter().copied().take(1500);
+        run(t, &file, &table, (64, 40), |_| rest.next());
+        for _ in 0..10 {
+            let sizes = inputs::sizes(c);
+            random_run(t, c, &file, &table, sizes, 60);
+        }
+    }
+    folders.len() as u64
+}
+
+/// Memory in order that no run left, stepped by the rules as it stands; positions up to the greatest.
+fn wild_runs(t: &mut Tally, c: &mut Chance) {
+    let calm = Way { opens: 6, closes: 5, odd: 100 };
+    for i in 0..6000 {
+        let (n, k) = match i % 40 {
+            0 => (64, 32),
+            1 => (1, 1),
+            2 => (c.between(9, 64) as usize, c.between(1, 32) as usize),
+            _ => (c.between(1, 8) as usize, c.between(1, 4) as usize),
+        };
+        let file = inputs::random_table(c, n, k);
+        let table = rules::read(&file);
+        t.tables += 1;
+        let (mut record, mut work) = inputs::wild_memory(c, n);
+        for _ in 0..c.between(1, 6) {
+            let byte = if c.one_in(20) { 65 } else { inputs::next_byte(c, calm, k) };
+            let room = c.between(record[0] + 1, record[0] + 4) as usize;
+            record = event(t, &file, &table, record, &mut work, room, byte).record;
+        }
+    }
+}
+
+/// Files that are no tables, to both calls.
+fn damaged_tables(t: &mut Tally, c: &mut Chance) {
+    for i in 0..6000 {
+        let n = if i % 20 == 0 { 64 } else { c.between(1, 9) as usize };
+        let k = if i % 10 == 0 { 32 } else { c.between(1, 4) as usize };
+        let mut file = inputs::random_table(c, n, k);
+        inputs::damage_table(c, &mut file);
+        let table = rules::read(&file);
+        t.tables += 1;
+        let (rows, depth) = inputs::sizes(c);
+        let old = vec![c.word(); rules::work_length(rows, depth) as usize];
+        start(t, &file, &table, rows, depth, &old);
+        let (record, mut work) = inputs::wild_memory(c, table.as_ref().map_or(n, |t| t.n));
+        event(t, &file, &table, record, &mut work, record[0] as usize + 1, inputs::next_byte(c, WAYS[0], k));
+    }
+}
+
+/// Rows and depths out of range, and lengths that do not fit.
+fn wrong_sizes(t: &mut Tally, c: &mut Chance) {
+    let file = inputs::table_w();
+    let table = rules::read(&file);
+    let odd = [0, 1, 2, 7, 40, 41, 64, 65, 255, 1 << 32, 1 << 61, 1 << 63, u64::MAX / 3, u64::MAX];
+    for rows in odd {
+        for depth in odd {
+            // The length that rows and depth ask for, wrapped round, so that an overflow would be found.
+            let asked = rows.wrapping_add(1).wrapping_mul(depth.wrapping_add(1).wrapping_mul(3).wrapping_add(1));
+            for length in [0, 1, asked.min(9000), asked.wrapping_sub(1).min(9000), asked.saturating_add(1).min(9000)] {
+                let mut work = vec![c.word(); length as usize];
+                start(t, &file, &table, rows, depth, &work);
+                let fits = rows.min(70) as usize + 1;
+                for room in [fits, 0, fits - 1, fits + 5] {
+                    work.fill(0);
+                    let byte = c.pick(&[0, 65, 66, 32]);
+                    event(t, &file, &table, [rows, depth, 0, 0, 0, 0], &mut work, room, byte);
+                }
+            }
+        }
+    }
+}
+
+/// Records and memories put out of order, some of them twice, and the place of the first word at fault.
+fn out_of_order(t: &mut Tally, c: &mut Chance) {
+    for i in 0..14000 {
+        let (n, k) = (if i % 30 == 0 { 64 } else { c.between(1, 6) as usize }, 2);
+        let file = inputs::random_table(c, n, k);
+        let table = rules::read(&file);
+        t.tables += 1;
+        let (mut record, mut work) = inputs::wild_memory(c, n);
+        for _ in 0..c.pick(&[1, 1, 2, 3]) {
+            if record[2] <= record[1] && record[3] <= record[0] && record[4] < u64::MAX {
+                inputs::breach(c, n, &mut record, &mut work);
+            }
+        }
+        event(t, &file, &table, record, &mut work, record[0] as usize + 1, inputs::next_byte(c, WAYS[0], k));
+    }
+}
+
+/// Several things wrong in one call: the lowest number has to be given.
+fn several_wrong(t: &mut Tally, c: &mut Chance) {
+    for _ in 0..6000 {
+        let n = c.between(1, 6) as usize;
+        let mut file = inputs::random_table(c, n, 2);
+        if c.one_in(5) {
+            inputs::damage_table(c, &mut file);
+        }
+        let table = rules::read(&file);
+        t.tables += 1;
+        let (mut record, mut work) = inputs::wild_memory(c, n);
+        if c.one_in(3) {
+            inputs::breach(c, n, &mut record, &mut work);
+        }
+        if c.one_in(4) {
+            work.fill(0);
+            record = [record[0], record[1], 0, 0, record[4], 1];
+        }
+        let mut room = record[0] as usize + 1;
+        match c.below(12) {
+            0 => work.truncate(c.0 as usize % work.len()),
+            1 => work.push(0),
+            2 => room = c.below(room as u64) as usize,
+            3 => record[0] = c.pick(&[0, 65, record[0] + 1, u64::MAX]),
+            4 => record[1] = c.pick(&[0, 41, record[1] + 1, u64::MAX]),
+            _ => {}
+        }
+        if c.one_in(4) {
+            record[4] = c.pick(&[2_147_483_647, 2_147_483_646, 2_147_483_648]);
+        }
+        let byte = if c.one_in(2) { c.below(256) as u8 } else { c.pick(&[0, 1, 2, 31, 32, 33, 34, 63, 64, 65, 66]) };
+        event(t, &file, &table, record, &mut work, room, byte);
+    }
+}
+
+/// Record and answer slices of a wrong length: 100, judged first, and nothing is written.
+fn wrong_lengths(t: &mut Tally, c: &mut Chance) {
+    let good = inputs::table_w();
+    for records in 0..10 {
+        for answers in 0..8 {
+            if records == 6 && answers == 4 {
+                continue;
+            }
+            for bad in [false, true] {
+                let file = if bad { vec![0; c.below(40) as usize] } else { good.clone() };
+                let old = [OLD; 14];
+                for is_start in [true, false] {
+                    let mut work = Lent::new(&old, OLD);
+                    let mut record = Lent::new(&vec![9; records], OLD);
+                    let mut answer = Lent::new(&vec![8; answers], OLD);
+                    let mut reports = Lent::new(&[5u32; 2], 1);
+                    let number = if is_start {
+                        t.starts += 1;
+                        link::start(&file, 1, 1, work.words(), record.words(), answer.words())
+                    } else {
+                        t.events += 1;
+                        link::event(&file, record.words(), work.words(), reports.words(), 0, answer.words())
+                    };
+                    t.count(100);
+                    t.same("wrong lengths, number", "the signature", &number, &100);
+                    t.same("wrong lengths, record", "as lent", &record.back(), &(vec![9; records], true));
+                    t.same("wrong lengths, answer", "as lent", &answer.back(), &(vec![8; answers], true));
+                    t.same("wrong lengths, work", "as lent", &work.back(), &(old.to_vec(), true));
+                    t.same("wrong lengths, reports", "as lent", &reports.back(), &(vec![5; 2], true));
+                }
+            }
+        }
+    }
+}
+
+/// A run up to the greatest position: the record is set near it, and the run goes on.
+fn last_positions(t: &mut Tally, c: &mut Chance) {
+    for _ in 0..400 {
+        let n = c.between(1, 6) as usize;
+        let file = inputs::random_table(c, n, 2);
+        let table = rules::read(&file);
+        t.tables += 1;
+        let mut before = c.below(12);
+        let (mut record, mut work) = run(t, &file, &table, inputs::sizes(c), |_| {
+            before = before.checked_sub(1)?;
+            Some(c.pick(&[0, 1, 32, 33, 64]))
+        });
+        record[4] = 2_147_483_647 - c.below(4);
+        for _ in 0..8 {
+            let byte = c.pick(&[0, 1, 32, 33, 64, 65, 2, 66]);
+            record = event(t, &file, &table, record, &mut work, 65, byte).record;
+        }
+    }
+}
+
+fn main() -> ExitCode {
+    let mut t = Tally::default();
+    let mut c = Chance(2026);
+    worked_cases(&mut t);
+    runs(&mut t, &mut c);
+    let examples = examples(&mut t, &mut c);
+    wild_runs(&mut t, &mut c);
+    damaged_tables(&mut t, &mut c);
+    wrong_sizes(&mut t, &mut c);
+    out_of_order(&mut t, &mut c);
+    several_wrong(&mut t, &mut c);
+    wrong_lengths(&mut t, &mut c);
+    last_positions(&mut t, &mut c);
+    let missed: Vec<usize> = (1..=16).filter(|&i| t.refused[i] == 0).collect();
+    println!("compared: {} tables ({examples} of examples/), {} starts, {} events", t.tables, t.starts, t.events);
+    let [own, later, end] = t.reports;
+    println!("reports: {}; {own} at the position's own event, {later} later, {end} at the end", own + later + end);
+    let numbers: Vec<String> = (1..=15).map(|i| format!("{i}: {}", t.refused[i])).collect();
+    println!("refusals: {}, 100: {}", numbers.join(", "), t.refused[16]);
+    if !missed.is_empty() {
+        println!("refusals never seen: {missed:?} (16 stands for 100)");
+    }
+    println!("{} differed", t.differed);
+    if t.differed == 0 && missed.is_empty() {
+        ExitCode::SUCCESS
+    } else {
+        ExitCode::FAILURE
+    }
+}
