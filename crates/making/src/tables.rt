@@ -4,6 +4,7 @@ use crate::dice::draw;
 use crate::dice::is_one_in;
 use slices::get;
 use slices::minus;
+use slices::pair;
 use slices::plus;
 use slices::put;
 
@@ -164,8 +165,4 @@ pub fn copy_table(given: &[u8], at: usize, file: &mut [u8]) -> usize {
         i += 1;
     }
     bytes
-}
-
-fn pair(s: &[u8], at: usize) -> usize {
-    get(s, at) + 256 * get(s, plus(at, 1))
 }

@@ -3,6 +3,7 @@
 // There the book has a line of 128 bytes for each of 64 states q: A(q,p) at p, P(q,a) at 64 + a, M(q) at 96, final at 97;
 // and O(a) at 98 of line a.
 use slices::get;
+use slices::pair;
 use slices::plus;
 use slices::put;
 
@@ -20,11 +21,6 @@ pub fn states(file: &[u8]) -> usize {
 
 pub fn labels(file: &[u8]) -> usize {
     get(file, 1)
-}
-
-// Two bytes, the low one first.
-fn pair(file: &[u8], at: usize) -> usize {
-    get(file, at) + 256 * get(file, plus(at, 1))
 }
 
 // The length is so many rows of this width.

@@ -16,6 +16,11 @@ pub fn put(s: &mut [u8], at: usize, x: usize) {
     }
 }
 
+// Two bytes as a number, the low one first.
+pub fn pair(s: &[u8], at: usize) -> usize {
+    get(s, at) + 256 * get(s, plus(at, 1))
+}
+
 // A word, or 0 beyond the end.
 pub fn word(s: &[u64], at: usize) -> u64 {
     if at < s.len() { s[at] } else { 0 }

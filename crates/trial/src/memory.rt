@@ -1,4 +1,5 @@
-// The memory that is lent to the watch: how much of it, copies of it, and the reports in it.
+// The memory that is lent to the watch: how much of it, copies of it, and the reports in it. Nothing is assumed.
+
 // A copy of work memory, which has at most 8,060 words.
 pub fn copy_of(work: &[u64]) -> [u64; 8060] {
     let mut copy = [0u64; 8060];
