@@ -312,42 +312,22 @@ fn draw_sizes(desk: &mut [u64]) -> Sizes {
     }
 }
 
-fn try_stream(
-    file: &mut [u8],
-    book: &mut [u8],
-    reach: &[u64],
-    must: &mut [u32],
-    work: &mut [u64],
-    reports: &mut [u32],
-    desk: &mut [u64],
-) {
+// A stream, and then a damaged start over what it left. What memory holds at first does not matter.
+fn try_stream(file: &mut [u8], book: &mut [u8], reach: &[u64], desk: &mut [u64]) {
+    let mut must = [0u32; 1024];
+    let mut work = [12297829382473034410u64; 8060];
+    let mut reports = [0u32; 72];
     let sizes = draw_sizes(desk);
-    let front = slices::front_words(work, memory::work_words(sizes.rows, sizes.depth));
-    let room = slices::front_reports(reports, sizes.room);
-    begin_stream(file, book, reach, must, front, room, desk, sizes);
-}
-
-// A stream, and a damaged start over the memory that it left.
-fn try_both(
-    file: &mut [u8],
-    book: &mut [u8],
-    reach: &[u64],
-    must: &mut [u32],
-    work: &mut [u64],
-    reports: &mut [u32],
-    desk: &mut [u64],
-) {
-    try_stream(file, book, reach, must, work, reports, desk);
-    damage::try_start(file, work, desk);
+    let front = slices::front_words(&mut work, memory::work_words(sizes.rows, sizes.depth));
+    let room = slices::front_reports(&mut reports, sizes.room);
+    begin_stream(file, book, reach, &mut must, front, room, desk, sizes);
+    damage::try_start(file, &mut work, desk);
 }
 
 fn try_streams(file: &mut [u8], book: &mut [u8], reach: &[u64], desk: &mut [u64], streams: usize) {
-    let mut must = [0u32; 1024];
-    let mut work = [0u64; 8060];
-    let mut reports = [0u32; 72];
     let mut i = 0;
     while i < streams {
-        try_both(file, book, reach, &mut must, &mut work, &mut reports, desk);
+        try_stream(file, book, reach, desk);
         i += 1;
     }
 }

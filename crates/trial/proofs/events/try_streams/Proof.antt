@@ -1,4 +1,4 @@
--- `try_streams` is safe and ends: all memory keeps its length, and each turn is one stream fewer.
+-- `try_streams` is safe and ends: the lent slices keep their lengths, and each turn is one stream fewer.
 use mathlib.Core.Path.{_≡_}
 use Prim.Native.Nat.{_-_}
 use native.Mathlib.Omega.{arith}
@@ -8,28 +8,17 @@ use Rattle.trial.proofs.events.try_streams.Statement.{statement}
 use Rattle.trial.proofs.events.try_streams.Tie as tie
 
 abbrev Inv-loop : tie.InvT-loop
-Inv-loop file₀ book₀ reach desk₀ streams must₀ work₀ reports₀ i₀ file book desk must work reports i =
-    (length file ≡ length file₀) × (length book ≡ length book₀) × (length desk ≡ length desk₀) ×
-    (length must ≡ 1024) × (length work ≡ 8060) × (length reports ≡ 72)
+Inv-loop file₀ book₀ reach desk₀ streams i₀ file book desk i =
+    (length file ≡ length file₀) × (length book ≡ length book₀) × (length desk ≡ length desk₀)
 
 abbrev μ-loop : tie.MeasureT-loop
-μ-loop file₀ book₀ reach desk₀ streams must₀ work₀ reports₀ i₀ file book desk must work reports i =
-    streams - i
+μ-loop file₀ book₀ reach desk₀ streams i₀ file book desk i = streams - i
 
 loop-holds : tie.Need-loop-holds Inv-loop μ-loop
 loop-holds c = omega arith
 
-slice-aggregate-try-both : tie.Need-slice-aggregate-try-both Inv-loop μ-loop
-slice-aggregate-try-both c = omega arith
-
-slice-aggregate-try-both-2 : tie.Need-slice-aggregate-try-both-2 Inv-loop μ-loop
-slice-aggregate-try-both-2 c = omega arith
-
-slice-aggregate-try-both-3 : tie.Need-slice-aggregate-try-both-3 Inv-loop μ-loop
-slice-aggregate-try-both-3 c = omega arith
-
-try-both-requires : tie.Need-try-both-requires Inv-loop μ-loop
-try-both-requires c κs = search needs
+try-stream-requires : tie.Need-try-stream-requires Inv-loop μ-loop
+try-stream-requires c κs = search needs
 
 add-i : tie.Need-add-i Inv-loop μ-loop
 add-i c = omega arith
@@ -59,10 +48,7 @@ try-streams-spec =
     Inv-loop
     μ-loop
     loop-holds
-    slice-aggregate-try-both
-    slice-aggregate-try-both-2
-    slice-aggregate-try-both-3
-    try-both-requires
+    try-stream-requires
     add-i
     loop-less
     loop-again
