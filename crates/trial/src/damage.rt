@@ -1,7 +1,8 @@
 // The same call with a damage beside it: in the file, the record, the memory or a length.
 //
 // The second evaluator says by which of 1 to 14 the call has to be refused, and with which place. Where it says none, memory
-// that no run left may be stepped as it stands: then the watch takes the call, or refuses it by 15.
+// that no run left may be stepped as it stands: then the watch takes the call, or refuses it by 15, and of a call that is
+// taken nothing else is compared.
 use crate::memory;
 use crate::tally;
 use engine::Outcome;
@@ -147,7 +148,7 @@ fn call(
     let named = (number == must.number) | (number == 15) & (must.number == 0);
     let placed = place_of(outcome) == must.place as u64;
     let kept = taken | is_kept(record, answer.next, reports);
-    tally::note(desk, tally::EVENTS, number, named & placed & kept);
+    tally::note(desk, tally::DAMAGED, number, named & placed & kept);
     taken
 }
 

@@ -1,9 +1,9 @@
 // Runs the watch against the second evaluator, on tables and streams made from a fixed seed and on the tables of examples/,
 // which stand one after the other on standard input. It says how much was compared, and how much of it differed.
 //
-// Compared are: of a start its number and record; of an event its number, its place, its reports and the words behind them, its
-// record; and of whatever is refused that it wrote nothing. Before each event the same call is made with a damage: in the
-// file, the record, the memory or the lengths.
+// Compared are: of a start its number and record; of an event its number, its reports and the words behind them, its record;
+// and of whatever is refused that it wrote nothing. Before each event the same call is made with a damage, in the file, the
+// record, the memory or the lengths, of which the number and the place are compared.
 mod damage;
 mod events;
 mod memory;
@@ -14,7 +14,7 @@ use libc::STDIN_FILENO;
 fn main() {
     let mut given = [0u8; 16384];
     let bytes = io::read_full(STDIN_FILENO, &mut given);
-    let mut desk = [0u64; 22];
+    let mut desk = [0u64; 23];
     desk[making::SEED] = 88172645463325252;
     events::try_given(&given[..bytes], &mut desk);
     events::try_made(&mut desk);

@@ -1,5 +1,5 @@
-// What was compared, in words of the desk: at 0 to 15 the refusals of each number (0: taken), then tables, starts, events,
-// reports, and what differed.
+// What was compared, in words of the desk: at 0 to 15 the refusals of each number (0: taken), of starts, events and damaged
+// calls together; then tables, starts, events, reports, what differed, and damaged calls.
 use libc::STDOUT_FILENO;
 use slices::put_word;
 use slices::word;
@@ -13,6 +13,9 @@ pub const EVENTS: usize = 18;
 pub const REPORTS: usize = 19;
 
 pub const DIFFERED: usize = 20;
+
+// The seed stands between.
+pub const DAMAGED: usize = 22;
 
 pub fn add(desk: &mut [u64], at: usize, more: u64) {
     let before = word(desk, at);
@@ -52,6 +55,7 @@ pub fn say_all(desk: &[u64]) {
     say(b"tables ", word(desk, TABLES));
     say(b"starts ", word(desk, STARTS));
     say(b"events ", word(desk, EVENTS));
+    say(b"damaged calls ", word(desk, DAMAGED));
     say(b"reports ", word(desk, REPORTS));
     say(b"taken ", word(desk, 0));
     say_refusals(desk);
