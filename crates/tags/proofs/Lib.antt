@@ -1,0 +1,14 @@
+pub mod Agreeing
+pub mod Cursoring
+pub mod Going
+pub mod Live
+pub mod Loops
+pub mod Opened
+pub mod Pieces
+pub mod Places
+pub mod Putting
+pub mod Scribes
+pub mod Spaces
+pub mod WholeStreams
+pub mod WholeTexts
+pub mod Words
