@@ -7,7 +7,6 @@
 use engine::Outcome;
 use engine::Record;
 use libc::STDIN_FILENO;
-use libc::STDOUT_FILENO;
 
 // More than the lines of one event take: at most 65 of at most 41 bytes, and a last one.
 const EVENT_LINES: usize = 4096;
@@ -20,47 +19,20 @@ struct Following {
     goes_on: bool,
 }
 
-// Puts a byte at a place of the output, where it has that place. Answers the place after it.
-fn put_byte(out: &mut [u8], at: usize, byte: u8) -> usize {
-    if at < out.len() {
-        out[at] = byte;
-        at + 1
-    } else {
-        at
-    }
-}
-
-// Puts bytes into the output from a place on, as far as it reaches, and answers the place after them.
-fn put(out: &mut [u8], at: usize, bytes: &[u8]) -> usize {
-    let mut to = at;
-    let mut i = 0;
-    while i < bytes.len() {
-        to = put_byte(out, to, bytes[i]);
-        i += 1;
-    }
-    to
-}
-
-fn put_number(out: &mut [u8], at: usize, x: u64) -> usize {
-    let mut text = [0u8; 20];
-    let k = io::decimal(x, &mut text);
-    put(out, at, &text[..k])
-}
-
 fn put_verdict(out: &mut [u8], at: usize, report: u32) -> usize {
     if report % 2 == 1 {
-        put(out, at, b" selected ")
+        pipes::put(out, at, b" selected ")
     } else {
-        put(out, at, b" failed ")
+        pipes::put(out, at, b" failed ")
     }
 }
 
 // "E selected P" or "E failed P", by a report word.
 fn put_report(out: &mut [u8], at: usize, event: u64, report: u32) -> usize {
-    let mut to = put_number(out, at, event);
+    let mut to = pipes::put_number(out, at, event);
     to = put_verdict(out, to, report);
-    to = put_number(out, to, (report / 2) as u64);
-    put(out, to, b"\n")
+    to = pipes::put_number(out, to, (report / 2) as u64);
+    pipes::put(out, to, b"\n")
 }
 
 // The lines of an event's reports.
@@ -76,11 +48,11 @@ fn put_reports(out: &mut [u8], at: usize, event: u64, reports: &[u32], count: u6
 
 // "end E events P positions", or "cut".
 fn put_total(out: &mut [u8], at: usize, how: &[u8], events: u64, positions: u64) -> usize {
-    let mut to = put(out, at, how);
-    to = put_number(out, to, events);
-    to = put(out, to, b" events ");
-    to = put_number(out, to, positions);
-    put(out, to, b" positions\n")
+    let mut to = pipes::put(out, at, how);
+    to = pipes::put_number(out, to, events);
+    to = pipes::put(out, to, b" events ");
+    to = pipes::put_number(out, to, positions);
+    pipes::put(out, to, b" positions\n")
 }
 
 // The line of the end, where the event was that.
@@ -94,25 +66,16 @@ fn put_end(out: &mut [u8], at: usize, event: u64, next: Record) -> usize {
 
 // "refused N at E".
 fn put_refusal(out: &mut [u8], at: usize, number: u64, event: u64) -> usize {
-    let mut to = put(out, at, b"refused ");
-    to = put_number(out, to, number);
-    to = put(out, to, b" at ");
-    to = put_number(out, to, event);
-    put(out, to, b"\n")
-}
-
-// Writes out the first bytes of the output. Answers whether that succeeded.
-fn write_front(out: &[u8], waiting: usize) -> bool {
-    if waiting <= out.len() {
-        io::write_all(STDOUT_FILENO, &out[..waiting])
-    } else {
-        false
-    }
+    let mut to = pipes::put(out, at, b"refused ");
+    to = pipes::put_number(out, to, number);
+    to = pipes::put(out, to, b" at ");
+    to = pipes::put_number(out, to, event);
+    pipes::put(out, to, b"\n")
 }
 
 // Writes out what waits. Where that fails, nothing more is read or written.
 fn write_out(out: &[u8], was: Following) -> Following {
-    let written = write_front(out, was.waiting);
+    let written = pipes::write_front(out, was.waiting);
     Following {
         record: was.record,
         events: was.events,
@@ -240,30 +203,28 @@ fn follow(table: &[u8], record: Record, work: &mut [u64], out: &mut [u8], waitin
         state = follow_some(table, state, work, &mut reports, out, &mut block);
         turns -= 1;
     }
-    write_front(out, state.waiting);
+    pipes::write_front(out, state.waiting);
 }
 
 // The watch over a table.
 fn watch(table: &[u8]) {
     let mut out = io::large_buffer();
     let mut work = [0u64; 8060];
-    let waiting = put(&mut out, 0, b"event verdict position\n");
+    let waiting = pipes::put(&mut out, 0, b"event verdict position\n");
     let answer = engine::start(table, 64, 40, &mut work);
     let outcome = answer.outcome;
     match outcome {
         Outcome::Refused(why) => {
             let end = put_refusal(&mut out, waiting, why.number(), 0);
-            write_front(&out, end);
+            pipes::write_front(&out, end);
         }
         Outcome::Taken(_) => follow(table, answer.next, &mut work, &mut out, waiting),
     }
 }
 
-// A table file that cannot be opened or read counts as empty: a failed open answers -1, from which nothing is read.
+// A table file that cannot be opened or read counts as empty.
 fn main() {
     let mut file = [0u8; 6334];
-    let fd = os::open_read(b"table");
-    let size = io::read_full(fd, &mut file);
-    libc::close(fd);
+    let size = pipes::load(b"table", &mut file);
     watch(&file[..size]);
 }

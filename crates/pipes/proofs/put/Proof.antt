@@ -1,17 +1,17 @@
--- `put` is safe. The invariant: the place is within the bytes, and the output keeps its length.
+-- `put` is safe. The invariant: the place is within the bytes, and the line keeps its length.
 use mathlib.Core.Path.{_≡_}
 use Prim.Native.Nat.{_≤_, _-_}
 use native.Mathlib.Omega.{arith}
 use borrow.Author.Needs.{needs}
 use lib.ListN.{length}
-use Rattle.watch.proofs.put.Statement.{statement}
-use Rattle.watch.proofs.put.Tie as tie
+use Rattle.pipes.proofs.put.Statement.{statement}
+use Rattle.pipes.proofs.put.Tie as tie
 
 abbrev Inv-loop : tie.InvT-loop
-Inv-loop out₀ at bytes to₀ i₀ out to i = (i ≤ length bytes) × (length out ≡ length out₀)
+Inv-loop line₀ at bytes to₀ i₀ line to i = (i ≤ length bytes) × (length line ≡ length line₀)
 
 abbrev μ-loop : tie.MeasureT-loop
-μ-loop out₀ at bytes to₀ i₀ out to i = length bytes - i
+μ-loop line₀ at bytes to₀ i₀ line to i = length bytes - i
 
 loop-holds : tie.Need-loop-holds Inv-loop μ-loop
 loop-holds c = omega arith
