@@ -57,7 +57,20 @@ pub fn front_bytes(s: &mut [u8], count: usize) -> &mut [u8] {
     &mut s[..end]
 }
 
-// The same of reports.
+// The bytes of a slice from a place on, or none of it.
+pub fn back_bytes(s: &mut [u8], from: usize) -> &mut [u8] {
+    let start = at_most(from, s.len());
+    &mut s[start..]
+}
+
+// The bytes of a slice from one place to another, as far as there are.
+pub fn part(s: &[u8], from: usize, to: usize) -> &[u8] {
+    let end = at_most(to, s.len());
+    let start = at_most(from, end);
+    &s[start..end]
+}
+
+// The first reports of a slice, or all of it.
 pub fn front_reports(s: &mut [u32], count: usize) -> &mut [u32] {
     let end = at_most(count, s.len());
     &mut s[..end]
@@ -75,6 +88,19 @@ pub fn same(a: &[u64], b: &[u64]) -> bool {
     let mut i = 0;
     while i < a.len() {
         if word(a, i) != word(b, i) {
+            alike = false;
+        }
+        i += 1;
+    }
+    alike
+}
+
+// Two slices hold the same bytes.
+pub fn same_bytes(a: &[u8], b: &[u8]) -> bool {
+    let mut alike = a.len() == b.len();
+    let mut i = 0;
+    while i < a.len() {
+        if get(a, i) != get(b, i) {
             alike = false;
         }
         i += 1;

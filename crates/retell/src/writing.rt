@@ -1,0 +1,148 @@
+// The writer: each place of the stream is judged by itself, the text is laid out once without memory to see how long it is, and
+// then once more.
+use crate::list::is_good;
+use crate::list::lines;
+use crate::list::put_name;
+use crate::reading::Told;
+use crate::reading::says;
+use crate::text::GREATER;
+use crate::text::LESS;
+use crate::text::SLASH;
+use slices::get;
+use slices::minus;
+use slices::plus;
+use slices::put;
+
+const CLOSE: usize = 64;
+
+const END: usize = 65;
+
+// Where so many elements are open before an event: how many are after it.
+fn open_after(event: usize, open: usize) -> usize {
+    if event < 32 {
+        plus(open, 1)
+    } else if event == CLOSE {
+        minus(open, 1)
+    } else {
+        open
+    }
+}
+
+// How many elements are open at a place.
+fn depth(events: &[u8], place: usize) -> usize {
+    let mut open = 0;
+    let mut at = 0;
+    while at < place {
+        open = open_after(get(events, at), open);
+        at += 1;
+    }
+    open
+}
+
+// The label of the element that is open at a place: of the last that was opened with one fewer open. 0 where none is open.
+fn open_label(events: &[u8], place: usize) -> usize {
+    let level = depth(events, place);
+    let mut label = 0;
+    let mut open = 0;
+    let mut at = 0;
+    while at < place {
+        let event = get(events, at);
+        if (plus(open, 1) == level) & (event < 32) {
+            label = event;
+        }
+        open = open_after(event, open);
+        at += 1;
+    }
+    label
+}
+
+// The label of the tag that an event is written as.
+pub fn label_at(events: &[u8], at: usize) -> usize {
+    let event = get(events, at);
+    if event < CLOSE {
+        event % 32
+    } else {
+        open_label(events, at)
+    }
+}
+
+// The event before a place is an end.
+fn is_after_end(events: &[u8], at: usize) -> bool {
+    if at == 0 {
+        return false;
+    }
+    get(events, at - 1) == END
+}
+
+// No whole stream goes on with the event at a place.
+fn is_stuck(names: &[u8], events: &[u8], at: usize) -> bool {
+    let event = get(events, at);
+    let open = depth(events, at);
+    let nameless = (event < CLOSE) & (lines(names) <= event % 32);
+    let deep = (event < 32) & (40 <= open);
+    let closed = (event == CLOSE) & (open == 0);
+    let early = (event == END) & (open != 0);
+    is_after_end(events, at) | (END < event) | nameless | deep | closed | early
+}
+
+fn first_stuck(names: &[u8], events: &[u8]) -> Told {
+    let mut at = 0;
+    while at < events.len() {
+        if is_stuck(names, events, at) {
+            return says(2, at);
+        }
+        at += 1;
+    }
+    if is_after_end(events, at) {
+        return says(0, 0);
+    }
+    says(2, at)
+}
+
+// A byte at a place of the text, where it is asked for. Answers the place after it.
+fn put_if(asked: bool, text: &mut [u8], to: usize, byte: usize) -> usize {
+    if asked {
+        put(text, to, byte);
+        return plus(to, 1);
+    }
+    to
+}
+
+// The tag of an event, with the name of a label, at a place of the text; an end has none. Answers the place after it.
+pub fn spell(names: &[u8], event: usize, label: usize, text: &mut [u8], to: usize) -> usize {
+    if CLOSE < event {
+        return to;
+    }
+    let begun = put_if(true, text, to, LESS);
+    let from = put_if(event == CLOSE, text, begun, SLASH);
+    let named = put_name(names, label, text, from);
+    let ended = put_if((32 <= event) & (event < CLOSE), text, named, SLASH);
+    put_if(true, text, ended, GREATER)
+}
+
+// The tags of all events from the front of the text. Answers their length.
+fn spell_all(names: &[u8], events: &[u8], text: &mut [u8]) -> usize {
+    let mut to = 0;
+    let mut at = 0;
+    while at < events.len() {
+        to = spell(names, get(events, at), label_at(events, at), text, to);
+        at += 1;
+    }
+    to
+}
+
+pub fn write(names: &[u8], events: &[u8], out: &mut [u8]) -> Told {
+    if !is_good(names) {
+        return says(1, 0);
+    }
+    let found = first_stuck(names, events);
+    if found.kind != 0 {
+        return found;
+    }
+    let mut nowhere = [0u8; 1];
+    let length = spell_all(names, events, &mut nowhere);
+    if out.len() < length {
+        return says(3, 0);
+    }
+    says(0, spell_all(names, events, out))
+}

@@ -1,0 +1,57 @@
+-- `move_up` is safe and ends: the bytes keep their number, and each turn is one byte fewer.
+use mathlib.Core.Path.{_≡_}
+use Prim.Native.Nat.{_-_}
+use native.Mathlib.Omega.{arith}
+use borrow.Author.Needs.{needs}
+use lib.ListN.{length}
+use Rattle.tagtrial.proofs.damage.move_up.Statement.{statement}
+use Rattle.tagtrial.proofs.damage.move_up.Tie as tie
+
+abbrev Inv-loop : tie.InvT-loop
+Inv-loop bytes₀ from to by at₀ bytes at = length bytes ≡ length bytes₀
+
+abbrev μ-loop : tie.MeasureT-loop
+μ-loop bytes₀ from to by at₀ bytes at = at - from
+
+loop-holds : tie.Need-loop-holds Inv-loop μ-loop
+loop-holds c = omega arith
+
+sub-at : tie.Need-sub-at Inv-loop μ-loop
+sub-at c = omega arith
+
+plus-requires : tie.Need-plus-requires Inv-loop μ-loop
+plus-requires c κs = search needs
+
+get-requires : tie.Need-get-requires Inv-loop μ-loop
+get-requires c κs = search needs
+
+put-requires : tie.Need-put-requires Inv-loop μ-loop
+put-requires c κs = search needs
+
+loop-less : tie.Need-loop-less Inv-loop μ-loop
+loop-less c = omega arith
+
+loop-again : tie.Need-loop-again Inv-loop μ-loop
+loop-again c = omega arith
+
+same-length : tie.Need-same-length Inv-loop μ-loop
+same-length c = omega arith
+
+returns : tie.Need-returns Inv-loop μ-loop
+returns c = search needs
+
+pub move-up-spec : {M : Type 1} → statement M
+move-up-spec =
+    tie.close
+    (tie.spec
+    Inv-loop
+    μ-loop
+    loop-holds
+    sub-at
+    plus-requires
+    get-requires
+    put-requires
+    loop-less
+    loop-again
+    same-length
+    returns)
