@@ -1,6 +1,6 @@
 -- Two steps that agree feed alike, from states that are related, also with room. Assumes nothing.
 use mathlib.Core.Path.{_≡_, refl, sym, ap, _∙_}
-use mathlib.Core.Bool.{Bool, true, false, _&&_}
+use mathlib.Core.Bool.{Bool, true, false, cond, _&&_}
 use lib.Dec.{ltb}
 use lib.ListN.{length}
 use mathlib.Core.List.{List, [], _∷_}
@@ -20,6 +20,12 @@ pub record FeedsAgree {A B : Type 0} (R : A → B → Type 0) (x : Fed A) (y : F
   pub taken : x .taken ≡ y .taken
   pub stops : x .stops ≡ y .stops
   pub state : R (x .state) (y .state)
+
+-- Two that are chosen by tests agree, where the tests do.
+pub agree-by : {X Y : Type 0} (P : X → Y → Type 0) (t t′ : Bool) {x x′ : X} {y y′ : Y} → t ≡ t′ → (t′ ≡ true → P x y) → P x′ y′
+    → P (cond t x x′) (cond t′ y y′)
+agree-by P t true e h i = rw e (h refl)
+agree-by P t false e h i = rw e i
 
 pub agree-feed : {A B : Type 0} (R : A → B → Type 0) (f : A → ℕ → Step A) (g : B → ℕ → Step B)
     → ((a : A) (b : B) (x : ℕ) → R a b → StepsAgree R (f a x) (g b x))

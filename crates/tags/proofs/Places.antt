@@ -34,7 +34,7 @@ use Rattle.tags.specs.declared.reader.Cursor.{Cursor}
 use Rattle.tags.specs.declared.reader.Stepped.{Stepped}
 use Rattle.tags.specs.Levels.{deeperBy, shallower, newestOf, openFrom, openIn}
 use Rattle.tags.specs.Cursors.{begin, faulted, moved, tagAt, judgeIn, judgeBy, tagStep, stepIn, stepOf, closedWithin, closedIn, cursorStep, givenBy, stopBy, feedIn}
-use Rattle.tags.proofs.Agreeing.{StepsAgree, FeedsAgree, agree-feed, InRoom, agree-roomed}
+use Rattle.tags.proofs.Agreeing.{StepsAgree, FeedsAgree, agree-by, agree-feed, InRoom, agree-roomed}
 use Rattle.tags.proofs.Opened.{Kept, kept-none, open-length, open-deeper, kept-deeper, kept-shallower, newest-is, open-shallower}
 
 -- What is begun of a tag, as a cursor holds it.
@@ -81,12 +81,6 @@ eqb-turn m n = go (eqb n m) refl
     go true e = eq-eqb m n (sym (eqb-true n m e))
     go false e = ne-eqb m n (λ h. eqb-false n m e (sym h))
 
--- Two that are chosen by tests agree, where the tests do.
-agree-by : {A B X Y : Type 0} (R : A → B → Type 0) (f : X → Step A) (g : Y → Step B) (t t′ : Bool) {x x′ : X} {y y′ : Y} → t ≡ t′
-    → (t′ ≡ true → StepsAgree R (f x) (g y)) → StepsAgree R (f x′) (g y′) → StepsAgree R (f (cond t x x′)) (g (cond t′ y y′))
-agree-by R f g t true e h i = rw e (h refl)
-agree-by R f g t false e h i = rw e i
-
 module _ {k : ℕ} (few : k ≤ 32) {c : Cursor} {p : Place} (s : Stands k c p) where
   agree-fault : (f : Fault) → StepsAgree (Stands k) (stepBy (faulted c f)) (stopped p f)
   agree-fault f = record { gives = refl; stops = refl; next = s }
@@ -102,7 +96,7 @@ module _ {k : ℕ} (few : k ≤ 32) {c : Cursor} {p : Place} (s : Stands k c p) 
 
   agree-open : (a : ℕ) (x : List ℕ) → a < k → StepsAgree (Stands k) (stepBy (judgeIn within.Opening c a)) (judge p a (Tag.opening x))
   agree-open a x h =
-      agree-by (Stands k) stepBy (λ y. y) (ltb (c .levels .depth) 40) (ltb (length (p .levels)) 40) (ap (λ (n : ℕ). ltb n 40) (depth-is s))
+      agree-by (λ x y. StepsAgree (Stands k) (stepBy x) y) (ltb (c .levels .depth) 40) (ltb (length (p .levels)) 40) (ap (λ (n : ℕ). ltb n 40) (depth-is s))
       (λ t. let d : c .levels .depth < 40 = rw (depth-is s) (ltb-true (length (p .levels)) 40 t) in
       agree-tag a (ap (λ (o : List ℕ). a ∷ o) (s .levels) ∙ sym (open-deeper (s .kept) a d)) (kept-deeper (s .kept) a h d))
       (agree-fault fault.Deep)
@@ -128,7 +122,7 @@ module _ {k : ℕ} (few : k ≤ 32) {c : Cursor} {p : Place} (s : Stands k c p) 
           let some : p .levels ≡ newest ∷ others = s .levels ∙ ap (λ (n : ℕ). openFrom (c .levels .labels) n) e in
           let test : eqb (newestOf (c .levels)) a ≡ eqb a newest = ap (λ (n : ℕ). eqb n a) (newest-is (s .kept) d e) ∙ eqb-turn newest a in
           subst (λ (o : List ℕ). StepsAgree (Stands k) (stepBy (judgeIn within.Closing c a)) (close p a o)) (sym some)
-          (agree-by (Stands k) stepBy (λ y. y) (eqb (newestOf (c .levels)) a) (eqb a newest) test
+          (agree-by (λ x y. StepsAgree (Stands k) (stepBy x) y) (eqb (newestOf (c .levels)) a) (eqb a newest) test
           (λ t. agree-tag 64 (sym (open-shallower (s .kept) d e)) (kept-shallower (s .kept)))
           (agree-fault fault.Closing))
 
@@ -144,39 +138,43 @@ module _ {k : ℕ} (few : k ≤ 32) {c : Cursor} {p : Place} (s : Stands k c p) 
         → StepsAgree (Stands k) (stepBy (tagStep names c)) (judged (linesOf names) p x t)
     agree-whole {x} t h i f =
         subst (λ (l : Label). StepsAgree (Stands k) (stepBy (judgeBy l c)) (judged (linesOf names) p x t)) (sym (label-is h))
-        (agree-by (Stands k) (λ (l : Label). stepBy (judgeBy l c)) (λ y. y) (ltb (placeOf x (linesOf names)) (length (linesOf names)))
+        (agree-by (λ (l : Label) y. StepsAgree (Stands k) (stepBy (judgeBy l c)) y) (ltb (placeOf x (linesOf names)) (length (linesOf names)))
         (ltb (placeOf x (linesOf names)) (length (linesOf names))) refl
         (λ e.
         subst (λ (u : Within). StepsAgree (Stands k) (stepBy (judgeIn u c (placeOf x (linesOf names)))) (judge p (placeOf x (linesOf names)) t)) (sym i)
         (f (placeOf x (linesOf names)) (subst (λ (n : ℕ). placeOf x (linesOf names) < n) count (ltb-true _ _ e))))
         (agree-fault fault.Unknown))
 
+    -- A step of the reader agrees with what the reading says of what is begun then.
+    abbrev Moves : Stepped → Next → Type 0
+    Moves x y = StepsAgree (Stands k) (stepBy x) (reading.moved (linesOf names) p y)
+
     -- A byte, by what is begun.
     agree-begun : (b : ℕ) {v : Within} {q : Begun} → Begins (c .name) v q → c .within ≡ v
         → StepsAgree (Stands k) (stepBy (stepIn v names c (classOf b) b)) (reading.moved (linesOf names) p (extend q b))
     agree-begun b Begins.nothing e =
-        agree-by (Stands k) stepBy (reading.moved (linesOf names) p) _ _ (class-blank b) (λ t. agree-moved Begins.nothing)
-        (agree-by (Stands k) stepBy (reading.moved (linesOf names) p) _ _ (class-less b) (λ t. agree-moved Begins.angle) (agree-fault fault.Byte))
+        agree-by Moves _ _ (class-blank b) (λ t. agree-moved Begins.nothing)
+        (agree-by Moves _ _ (class-less b) (λ t. agree-moved Begins.angle) (agree-fault fault.Byte))
     agree-begun b Begins.angle e =
-        agree-by (Stands k) stepBy (reading.moved (linesOf names) p) _ _ (class-letter b)
+        agree-by Moves _ _ (class-letter b)
         (λ t. agree-moved (Begins.opening (spells-more spells-none b)))
-        (agree-by (Stands k) stepBy (reading.moved (linesOf names) p) _ _ (class-slash b) (λ t. agree-moved Begins.slashed) (agree-fault fault.Byte))
+        (agree-by Moves _ _ (class-slash b) (λ t. agree-moved Begins.slashed) (agree-fault fault.Byte))
     agree-begun b Begins.slashed e =
-        agree-by (Stands k) stepBy (reading.moved (linesOf names) p) _ _ (class-letter b)
+        agree-by Moves _ _ (class-letter b)
         (λ t. agree-moved (Begins.closing (spells-more spells-none b)))
         (agree-fault fault.Byte)
     agree-begun b (Begins.opening {x} h) e =
-        agree-by (Stands k) stepBy (reading.moved (linesOf names) p) _ _ (class-name b) (λ t. agree-moved (Begins.opening (spells-more h b)))
-        (agree-by (Stands k) stepBy (reading.moved (linesOf names) p) _ _ (class-greater b)
+        agree-by Moves _ _ (class-name b) (λ t. agree-moved (Begins.opening (spells-more h b)))
+        (agree-by Moves _ _ (class-greater b)
         (λ t. agree-whole (Tag.opening x) h e (λ a l. agree-open a x l))
-        (agree-by (Stands k) stepBy (reading.moved (linesOf names) p) _ _ (class-slash b) (λ t. agree-moved (Begins.empty h)) (agree-fault fault.Byte)))
+        (agree-by Moves _ _ (class-slash b) (λ t. agree-moved (Begins.empty h)) (agree-fault fault.Byte)))
     agree-begun b (Begins.closing {x} h) e =
-        agree-by (Stands k) stepBy (reading.moved (linesOf names) p) _ _ (class-name b) (λ t. agree-moved (Begins.closing (spells-more h b)))
-        (agree-by (Stands k) stepBy (reading.moved (linesOf names) p) _ _ (class-greater b)
+        agree-by Moves _ _ (class-name b) (λ t. agree-moved (Begins.closing (spells-more h b)))
+        (agree-by Moves _ _ (class-greater b)
         (λ t. agree-whole (Tag.closing x) h e (λ a l. agree-close a x l))
         (agree-fault fault.Byte))
     agree-begun b (Begins.empty {x} h) e =
-        agree-by (Stands k) stepBy (reading.moved (linesOf names) p) _ _ (class-greater b)
+        agree-by Moves _ _ (class-greater b)
         (λ t. agree-whole (Tag.empty x) h e (λ a l. agree-point a x l))
         (agree-fault fault.Byte)
 

@@ -1,7 +1,7 @@
 -- The writer's steps are the writing of `grammar`, where the list of names is good: from states that are related, events
 -- give the same bytes and are at fault alike. Assumes nothing.
 use mathlib.Core.Path.{_≡_, refl, sym, ap, ap₂, _∙_}
-use mathlib.Core.Bool.{Bool, true, false, cond, _&&_}
+use mathlib.Core.Bool.{Bool, true, false, _&&_}
 use mathlib.Core.List.{List, [], _∷_}
 use Prim.Native.Nat.{ℕ, zero, suc, _%_, _<_}
 use native.Mathlib.Nat.{mod-eq-of-lt}
@@ -27,7 +27,7 @@ use Rattle.tags.specs.declared.writer.Form.the-variants as form
 use Rattle.tags.specs.declared.writer.Spelled.{Spelled}
 use Rattle.tags.specs.Levels.{deeperBy, shallower, newestOf, openFrom, openIn}
 use Rattle.tags.specs.Writers.{begin, wrong, ended, written, hasName, closeEvent, eventStep, spellStep, givesBy, stopBy, scribeStep, followIn, writeIn}
-use Rattle.tags.proofs.Agreeing.{StepsAgree, FeedsAgree, agree-feed, InRoom, agree-roomed}
+use Rattle.tags.proofs.Agreeing.{StepsAgree, FeedsAgree, agree-by, agree-feed, InRoom, agree-roomed}
 use Rattle.tags.proofs.Opened.{Kept, kept-none, open-length, open-deeper, kept-deeper, kept-shallower, newest-is, open-shallower}
 
 -- A scribe keeps what `grammar` says is written; its labels are those of k names.
@@ -44,12 +44,6 @@ record Agrees (k : ℕ) (x : Spelled) (y : Step Written) : Type 0 where
   gives : givesBy (x .given) (x .name) ≡ y .gives
   stops : stopBy (x .given) ≡ y .stops
   next : Keeps k (x .next) (y .next)
-
--- Two that are chosen by tests agree, where the tests do.
-agree-by : {k : ℕ} (t t′ : Bool) {x y : Spelled} {x′ y′ : Step Written} → t ≡ t′ → (t′ ≡ true → Agrees k x x′) → Agrees k y y′
-    → Agrees k (cond t x y) (cond t′ x′ y′)
-agree-by t true e f g = rw e (f refl)
-agree-by t false e f g = rw e g
 
 agree-wrong : {k : ℕ} {s : Scribe} {w : Written} → Keeps k s w → Agrees k (wrong s) (stopped w fault.Byte)
 agree-wrong h = record { gives = refl; stops = refl; next = h }
@@ -91,7 +85,7 @@ module _ (names : List ℕ) (good : goodNames names ≡ true) where
   module _ {s : Scribe} {w : Written} (h : Keeps (length ns) s w) where
     agree-open : (a : ℕ) → Agrees (length ns) (eventStep names s (event.Open a)) (writeEvent ns w (event.Open a))
     agree-open a =
-        agree-by (hasName (wordAt names a) && ltb (s .levels .depth) 40) (ltb a (length ns) && ltb (length (w .levels)) 40)
+        agree-by (Agrees (length ns)) (hasName (wordAt names a) && ltb (s .levels .depth) 40) (ltb a (length ns) && ltb (length (w .levels)) 40)
         (ap₂ _&&_ (has-name a) (ap (λ (d : ℕ). ltb d 40) (depth-is h))) opens (agree-wrong h)
       where
         opens : ltb a (length ns) && ltb (length (w .levels)) 40 ≡ true
@@ -110,7 +104,7 @@ module _ (names : List ℕ) (good : goodNames names ≡ true) where
 
     agree-point : (a : ℕ) → Agrees (length ns) (eventStep names s (event.Point a)) (writeEvent ns w (event.Point a))
     agree-point a =
-        agree-by (hasName (wordAt names a)) (ltb a (length ns)) (has-name a)
+        agree-by (Agrees (length ns)) (hasName (wordAt names a)) (ltb a (length ns)) (has-name a)
         (λ e. record {
           gives = ap (λ (x : List ℕ). tagText (Tag.empty x)) (word-is a (ltb-true a (length ns) e));
           stops = refl;
@@ -120,7 +114,7 @@ module _ (names : List ℕ) (good : goodNames names ≡ true) where
 
     agree-end : Agrees (length ns) (eventStep names s event.End) (writeEvent ns w event.End)
     agree-end =
-        agree-by (eqb (s .levels .depth) 0) (eqb (length (w .levels)) 0) (ap (λ (d : ℕ). eqb d 0) (depth-is h))
+        agree-by (Agrees (length ns)) (eqb (s .levels .depth) 0) (eqb (length (w .levels)) 0) (ap (λ (d : ℕ). eqb d 0) (depth-is h))
         (λ e. record { gives = refl; stops = refl; next = record { levels = h .levels; ended = refl; kept = h .kept } })
         (agree-wrong h)
 
@@ -155,7 +149,7 @@ module _ (names : List ℕ) (good : goodNames names ≡ true) where
     agree-event event.Unknown = agree-wrong h
 
     agree-spell : (b : ℕ) → Agrees (length ns) (spellStep names s b) (writeStep ns w b)
-    agree-spell b = agree-by (s .ended) (w .ended) (h .ended) (λ e. agree-wrong h) (agree-event (meaningOf b))
+    agree-spell b = agree-by (Agrees (length ns)) (s .ended) (w .ended) (h .ended) (λ e. agree-wrong h) (agree-event (meaningOf b))
 
   agree-step : (s : Scribe) (w : Written) (b : ℕ) → Keeps (length ns) s w → StepsAgree (Keeps (length ns)) (scribeStep names s b) (writeStep ns w b)
   agree-step s w b h = let a = agree-spell h b in record { gives = a .gives; stops = a .stops; next = a .next }
