@@ -19,3 +19,4 @@ pub use reading::tell;
 pub use writing::label_at;
 pub use writing::spell;
 pub use writing::write;
+pub use writing::write_on;

@@ -10,6 +10,7 @@ use crate::text::LESS;
 use crate::text::SLASH;
 use slices::get;
 use slices::minus;
+use slices::part;
 use slices::plus;
 use slices::put;
 
@@ -145,4 +146,44 @@ pub fn write(names: &[u8], events: &[u8], out: &mut [u8]) -> Told {
         return says(3, 0);
     }
     says(0, spell_all(names, events, out))
+}
+
+// How many events have tags that stand in so much room, one after the other.
+fn fitting(names: &[u8], events: &[u8], room: usize) -> usize {
+    let mut nowhere = [0u8; 1];
+    let mut fits = 0;
+    let mut to = 0;
+    let mut at = 0;
+    while at < events.len() {
+        to = spell(
+            names,
+            get(events, at),
+            label_at(events, at),
+            &mut nowhere,
+            to,
+        );
+        fits = plus(fits, (to <= room) as usize);
+        at += 1;
+    }
+    fits
+}
+
+// The tags of a stream as far as it goes: up to the first event that no whole stream goes on with, or whose tag has no room.
+// Answers that event's place with the reader's number for a byte or for no room, or with 0 how many events there are.
+pub fn write_on(names: &[u8], events: &[u8], out: &mut [u8]) -> Told {
+    let found = first_stuck(names, events);
+    let end = if found.kind == 0 {
+        events.len()
+    } else {
+        found.place
+    };
+    let fits = fitting(names, part(events, 0, end), out.len());
+    spell_all(names, part(events, 0, fits), out);
+    if fits < end {
+        return says(7, fits);
+    }
+    if end < events.len() {
+        return says(2, end);
+    }
+    says(0, end)
 }

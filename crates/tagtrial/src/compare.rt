@@ -1,5 +1,6 @@
 // Both sides on a text, and both on a stream.
 use crate::feeding;
+use crate::putting;
 use crate::tally;
 use grammar::Fault;
 use grammar::Reading;
@@ -108,13 +109,29 @@ fn try_back(names: &[u8], events: &[u8], desk: &mut [u64]) {
     tally::add(desk, tally::AGAIN, 1);
 }
 
-// A stream with room enough and, where it is taken, with just enough or one byte too few. What is written is read back.
-pub fn try_stream(names: &[u8], events: &[u8], desk: &mut [u64]) {
+// A stream in pieces, with room enough and with some. Where it is taken, what is written is read back.
+fn try_on(names: &[u8], events: &[u8], desk: &mut [u64], must: Told) {
+    let room = draw(desk, 600);
+    putting::try_pieces(names, events, room, desk);
+    putting::try_pieces(names, events, 4096, desk);
+    if must.kind == 0 {
+        try_back(names, events, desk);
+    }
+}
+
+// A stream at once, with room enough and, where it is taken, with just enough or one byte too few. Answers what must be said.
+fn try_at_once(names: &[u8], events: &[u8], desk: &mut [u64]) -> Told {
     let must = try_writing(names, events, 4096, desk);
     let less = minus(must.place, draw(desk, 2));
     try_writing(names, events, less, desk);
-    if must.kind == 0 {
-        try_back(names, events, desk);
+    must
+}
+
+// A stream at once and in pieces.
+pub fn try_stream(names: &[u8], events: &[u8], desk: &mut [u64]) {
+    let must = try_at_once(names, events, desk);
+    if must.kind != 1 {
+        try_on(names, events, desk, must);
     }
 }
 

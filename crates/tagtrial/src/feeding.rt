@@ -11,8 +11,8 @@ use slices::plus;
 use tags::reader::Cursor;
 use tags::reader::Fed;
 
-// The number of what has stopped a text, or 0.
-fn stop_number(stop: Stop) -> usize {
+// The number of what has stopped a text or a stream, or 0.
+pub fn stop_number(stop: Stop) -> usize {
     match stop {
         Stop::Not => 0,
         Stop::At(fault) => compare::number_of(fault),

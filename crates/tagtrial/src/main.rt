@@ -3,16 +3,14 @@
 // much was compared, and how much of it differed.
 //
 // Compared are: of a text its answer, with the place, and every byte of the output; the same text fed in pieces, its events up
-// to a fault, the fault and its place; of a stream its answer, with the place, and every byte of the output. What is read is
-// written, and what is written is read back, and gives the same events. Each is done with room enough and with less.
+// to a fault, the fault and its place; of a stream its answer, with the place, and every byte of the output; the same stream
+// written in two pieces, up to a fault, its place and every byte. What is read is written, and what is written is read back, and
+// gives the same events. Each is done with room enough and with less.
 mod compare;
-mod damage;
 mod feeding;
-mod lists;
+mod putting;
 mod runs;
-mod streams;
 mod tally;
-mod texts;
 
 fn main() {
     let mut desk = [0u64; 40];

@@ -1,9 +1,9 @@
 // What is tried: each byte value at each place of a small text, list and stream, and lists, texts and streams that are drawn.
 use crate::compare;
-use crate::lists;
-use crate::streams;
 use crate::tally;
-use crate::texts;
+use drafts::lists;
+use drafts::streams;
+use drafts::texts;
 use slices::part;
 use slices::put;
 

@@ -1,5 +1,6 @@
 // What was compared, in words of the desk: at 0 to 7 the texts of each kind of answer, at 8 to 11 the streams of each kind; then
-// lists, texts, pieces, streams, events read back and what differed. From 22 on stands for each kind the furthest place.
+// lists, texts, pieces, streams, events read back, streams in two pieces and what differed. From 22 on stands for each kind the
+// furthest place.
 use libc::STDOUT_FILENO;
 use slices::plus;
 use slices::put_word;
@@ -17,6 +18,8 @@ pub const PIECES: usize = 14;
 pub const STREAMS: usize = 15;
 
 pub const AGAIN: usize = 16;
+
+pub const PUT: usize = 17;
 
 pub const DIFFERED: usize = 20;
 
@@ -83,6 +86,7 @@ fn say_counts(desk: &[u64]) {
     say(b"texts ", word(desk, TEXTS));
     say(b"pieces ", word(desk, PIECES));
     say(b"streams ", word(desk, STREAMS));
+    say(b"in two pieces ", word(desk, PUT));
     say(b"read back ", word(desk, AGAIN));
     say(b"texts taken ", word(desk, 0));
 }

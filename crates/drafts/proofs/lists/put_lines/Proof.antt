@@ -4,8 +4,8 @@ use Prim.Native.Nat.{_-_}
 use native.Mathlib.Omega.{arith}
 use borrow.Author.Needs.{needs}
 use lib.ListN.{length}
-use Rattle.tagtrial.proofs.lists.put_lines.Statement.{statement}
-use Rattle.tagtrial.proofs.lists.put_lines.Tie as tie
+use Rattle.drafts.proofs.lists.put_lines.Statement.{statement}
+use Rattle.drafts.proofs.lists.put_lines.Tie as tie
 
 abbrev Inv-loop : tie.InvT-loop
 Inv-loop names₀ desk₀ plan lines at₀ number₀ names desk at number = (length names ≡ length names₀) × (length desk ≡ length desk₀)

@@ -3,6 +3,7 @@ use crate::damage;
 use making::draw;
 use making::is_one_in;
 use slices::get;
+use slices::minus;
 use slices::plus;
 use slices::put;
 
@@ -23,6 +24,14 @@ fn draw_label(events: &[u8], at: usize, desk: &mut [u64], labels: usize) -> usiz
     retell::label_at(events, at)
 }
 
+// Now and then the byte before the end of a tag is a z: its name is another then, and that of a point opens an element.
+fn misspell(text: &mut [u8], end: usize, desk: &mut [u64]) -> usize {
+    if is_one_in(desk, 200) {
+        put(text, minus(end, 2), 122);
+    }
+    end
+}
+
 // A tag, and blanks before it. Answers the place after it.
 fn put_tag(
     names: &[u8],
@@ -35,7 +44,8 @@ fn put_tag(
     let first = put_blank(text, at, desk);
     let from = put_blank(text, first, desk);
     let label = draw_label(events, i, desk, retell::lines(names));
-    retell::spell(names, get(events, i), label, text, from)
+    let end = retell::spell(names, get(events, i), label, text, from);
+    misspell(text, end, desk)
 }
 
 // Makes the text of a stream. Answers its length.

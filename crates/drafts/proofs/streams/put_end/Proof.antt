@@ -4,8 +4,8 @@ use Prim.Native.Nat.{_-_}
 use native.Mathlib.Omega.{arith}
 use borrow.Author.Needs.{needs}
 use lib.ListN.{length}
-use Rattle.tagtrial.proofs.streams.put_end.Statement.{statement}
-use Rattle.tagtrial.proofs.streams.put_end.Tie as tie
+use Rattle.drafts.proofs.streams.put_end.Statement.{statement}
+use Rattle.drafts.proofs.streams.put_end.Tie as tie
 
 abbrev Inv-loop : tie.InvT-loop
 Inv-loop events₀ from depth i₀ events i = length events ≡ length events₀

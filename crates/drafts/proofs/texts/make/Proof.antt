@@ -4,8 +4,8 @@ use Prim.Native.Nat.{_-_}
 use native.Mathlib.Omega.{arith}
 use borrow.Author.Needs.{needs}
 use lib.ListN.{length}
-use Rattle.tagtrial.proofs.texts.make.Statement.{statement}
-use Rattle.tagtrial.proofs.texts.make.Tie as tie
+use Rattle.drafts.proofs.texts.make.Statement.{statement}
+use Rattle.drafts.proofs.texts.make.Tie as tie
 
 abbrev Inv-loop : tie.InvT-loop
 Inv-loop names events text₀ desk₀ at₀ i₀ text desk at i = (length text ≡ length text₀) × (length desk ≡ length desk₀)

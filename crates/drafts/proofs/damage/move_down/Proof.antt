@@ -4,8 +4,8 @@ use Prim.Native.Nat.{_-_}
 use native.Mathlib.Omega.{arith}
 use borrow.Author.Needs.{needs}
 use lib.ListN.{length}
-use Rattle.tagtrial.proofs.damage.move_down.Statement.{statement}
-use Rattle.tagtrial.proofs.damage.move_down.Tie as tie
+use Rattle.drafts.proofs.damage.move_down.Statement.{statement}
+use Rattle.drafts.proofs.damage.move_down.Tie as tie
 
 abbrev Inv-loop : tie.InvT-loop
 Inv-loop bytes₀ from to at₀ bytes at = length bytes ≡ length bytes₀

@@ -4,8 +4,8 @@ use Prim.Native.Nat.{_-_}
 use native.Mathlib.Omega.{arith}
 use borrow.Author.Needs.{needs}
 use lib.ListN.{length}
-use Rattle.tagtrial.proofs.streams.put_events.Statement.{statement}
-use Rattle.tagtrial.proofs.streams.put_events.Tie as tie
+use Rattle.drafts.proofs.streams.put_events.Statement.{statement}
+use Rattle.drafts.proofs.streams.put_events.Tie as tie
 
 abbrev Inv-loop : tie.InvT-loop
 Inv-loop events₀ desk₀ plan labels depth₀ at₀ events desk depth at = (length events ≡ length events₀) × (length desk ≡ length desk₀)

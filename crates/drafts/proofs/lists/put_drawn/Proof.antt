@@ -4,8 +4,8 @@ use Prim.Native.Nat.{_-_}
 use native.Mathlib.Omega.{arith}
 use borrow.Author.Needs.{needs}
 use lib.ListN.{length}
-use Rattle.tagtrial.proofs.lists.put_drawn.Statement.{statement}
-use Rattle.tagtrial.proofs.lists.put_drawn.Tie as tie
+use Rattle.drafts.proofs.lists.put_drawn.Statement.{statement}
+use Rattle.drafts.proofs.lists.put_drawn.Tie as tie
 
 abbrev Inv-loop : tie.InvT-loop
 Inv-loop names₀ at desk₀ plan count i₀ names desk i = (length names ≡ length names₀) × (length desk ≡ length desk₀)
