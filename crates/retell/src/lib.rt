@@ -8,6 +8,7 @@
 // An answer is a number and a place. Nothing is assumed of a caller. What is out of reach reads as 0, and is not written.
 mod list;
 mod reading;
+mod seeking;
 mod text;
 mod writing;
 

@@ -1,4 +1,6 @@
 // The list of names, by the places of its bytes: a line begins at the front, and after each byte 10.
+use crate::seeking::count;
+use crate::seeking::seek;
 use crate::text::is_letter;
 use crate::text::is_name_byte;
 use slices::get;
@@ -17,20 +19,9 @@ fn begins(names: &[u8], at: usize) -> bool {
     get(names, at - 1) == LAST
 }
 
-// Where the line ends that goes on at a place.
-fn line_end(names: &[u8], from: usize) -> usize {
-    let mut at = from;
-    while at < names.len() {
-        if get(names, at) == LAST {
-            return at;
-        }
-        at += 1;
-    }
-    at
-}
-
+// The length of the line that goes on at a place.
 fn line_length(names: &[u8], from: usize) -> usize {
-    minus(line_end(names, from), from)
+    minus(seek(names, from, LAST), from)
 }
 
 // So many bytes are the same, from a place in one slice and from one in another.
@@ -115,26 +106,13 @@ fn are_fine(names: &[u8]) -> bool {
     fine
 }
 
-// How many lines end before a place.
-fn lines_before(names: &[u8], place: usize) -> usize {
-    let mut lines = 0;
-    let mut at = 0;
-    while at < place {
-        if get(names, at) == LAST {
-            lines = plus(lines, 1);
-        }
-        at += 1;
-    }
-    lines
-}
-
 pub fn lines(names: &[u8]) -> usize {
-    lines_before(names, names.len())
+    count(names, names.len(), LAST)
 }
 
 pub fn is_good(names: &[u8]) -> bool {
-    let count = lines(names);
-    (1 <= count) & (count <= 32) & (get(names, minus(names.len(), 1)) == LAST) & are_fine(names)
+    let lines = lines(names);
+    (1 <= lines) & (lines <= 32) & (get(names, minus(names.len(), 1)) == LAST) & are_fine(names)
 }
 
 // A line begins at the place and is these bytes of a text.
@@ -152,7 +130,7 @@ pub fn label_of(names: &[u8], text: &[u8], from: usize, to: usize) -> usize {
     let mut at = 0;
     while at < names.len() {
         if names_it(names, at, text, from, minus(to, from)) {
-            label = lines_before(names, at);
+            label = count(names, at, LAST);
         }
         at += 1;
     }
@@ -178,11 +156,11 @@ fn line_at(names: &[u8], label: usize) -> usize {
 // Puts the name of a label at a place of a text. Answers the place after it.
 pub fn put_name(names: &[u8], label: usize, text: &mut [u8], to: usize) -> usize {
     let from = line_at(names, label);
-    let count = line_length(names, from);
+    let length = line_length(names, from);
     let mut i = 0;
-    while i < count {
+    while i < length {
         slices::put(text, plus(to, i), get(names, plus(from, i)));
         i += 1;
     }
-    plus(to, count)
+    plus(to, length)
 }

@@ -1,4 +1,6 @@
 // What stands where in a text, of which everything before the place that is asked about is in order.
+use crate::seeking::count;
+use crate::seeking::seek;
 use slices::get;
 use slices::minus;
 use slices::plus;
@@ -52,14 +54,7 @@ pub fn tag_of(text: &[u8], place: usize) -> usize {
 
 // The first ">" from a place on, or the text's end.
 pub fn tag_end(text: &[u8], from: usize) -> usize {
-    let mut at = from;
-    while at < text.len() {
-        if get(text, at) == GREATER {
-            return at;
-        }
-        at += 1;
-    }
-    at
+    seek(text, from, GREATER)
 }
 
 // Which tag begins at a place.
@@ -136,13 +131,5 @@ pub fn open_tag(text: &[u8], place: usize) -> usize {
 
 // How many tags begin before a place.
 pub fn tags_before(text: &[u8], place: usize) -> usize {
-    let mut tags = 0;
-    let mut at = 0;
-    while at < place {
-        if get(text, at) == LESS {
-            tags = plus(tags, 1);
-        }
-        at += 1;
-    }
-    tags
+    count(text, place, LESS)
 }

@@ -1,5 +1,5 @@
-// The writer: each place of the stream is judged by itself, the text is laid out once without memory to see how long it is, and
-// then once more.
+// The writer: each place of the stream is judged by itself, the tags are laid out once without memory to see how many have room,
+// and then once more.
 use crate::list::is_good;
 use crate::list::lines;
 use crate::list::put_name;
@@ -132,22 +132,6 @@ fn spell_all(names: &[u8], events: &[u8], text: &mut [u8]) -> usize {
     to
 }
 
-pub fn write(names: &[u8], events: &[u8], out: &mut [u8]) -> Told {
-    if !is_good(names) {
-        return says(1, 0);
-    }
-    let found = first_stuck(names, events);
-    if found.kind != 0 {
-        return found;
-    }
-    let mut nowhere = [0u8; 1];
-    let length = spell_all(names, events, &mut nowhere);
-    if out.len() < length {
-        return says(3, 0);
-    }
-    says(0, spell_all(names, events, out))
-}
-
 // How many events have tags that stand in so much room, one after the other.
 fn fitting(names: &[u8], events: &[u8], room: usize) -> usize {
     let mut nowhere = [0u8; 1];
@@ -166,6 +150,20 @@ fn fitting(names: &[u8], events: &[u8], room: usize) -> usize {
         at += 1;
     }
     fits
+}
+
+pub fn write(names: &[u8], events: &[u8], out: &mut [u8]) -> Told {
+    if !is_good(names) {
+        return says(1, 0);
+    }
+    let found = first_stuck(names, events);
+    if found.kind != 0 {
+        return found;
+    }
+    if fitting(names, events, out.len()) < events.len() {
+        return says(3, 0);
+    }
+    says(0, spell_all(names, events, out))
 }
 
 // The tags of a stream as far as it goes: up to the first event that no whole stream goes on with, or whose tag has no room.

@@ -21,8 +21,8 @@ minus-requires c κs = search needs
 names-it-requires : tie.Need-names-it-requires Inv-loop μ-loop
 names-it-requires c κs = search needs
 
-lines-before-requires : tie.Need-lines-before-requires Inv-loop μ-loop
-lines-before-requires c κs = search needs
+count-requires : tie.Need-count-requires Inv-loop μ-loop
+count-requires c κs = search needs
 
 add-at : tie.Need-add-at Inv-loop μ-loop
 add-at c = omega arith
@@ -45,7 +45,7 @@ label-of-spec =
     loop-holds
     minus-requires
     names-it-requires
-    lines-before-requires
+    count-requires
     add-at
     loop-less
     loop-again

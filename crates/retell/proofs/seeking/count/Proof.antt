@@ -1,16 +1,15 @@
--- `line_end` is safe and ends: each turn is one byte fewer.
+-- `count` is safe and ends: each turn is one byte fewer.
 use Prim.Native.Nat.{_≤_, _-_}
 use native.Mathlib.Omega.{arith}
 use borrow.Author.Needs.{needs}
-use lib.ListN.{length}
-use Rattle.retell.proofs.list.line_end.Statement.{statement}
-use Rattle.retell.proofs.list.line_end.Tie as tie
+use Rattle.retell.proofs.seeking.count.Statement.{statement}
+use Rattle.retell.proofs.seeking.count.Tie as tie
 
 abbrev Inv-loop : tie.InvT-loop
-Inv-loop names from at₀ at = 0 ≤ at
+Inv-loop bytes place byte found₀ at₀ found at = 0 ≤ at
 
 abbrev μ-loop : tie.MeasureT-loop
-μ-loop names from at₀ at = length names - at
+μ-loop bytes place byte found₀ at₀ found at = place - at
 
 loop-holds : tie.Need-loop-holds Inv-loop μ-loop
 loop-holds c = omega arith
@@ -18,8 +17,8 @@ loop-holds c = omega arith
 get-requires : tie.Need-get-requires Inv-loop μ-loop
 get-requires c κs = search needs
 
-returns : tie.Need-returns Inv-loop μ-loop
-returns c = search needs
+plus-requires : tie.Need-plus-requires Inv-loop μ-loop
+plus-requires c κs = search needs
 
 add-at : tie.Need-add-at Inv-loop μ-loop
 add-at c = omega arith
@@ -30,19 +29,19 @@ loop-less c = omega arith
 loop-again : tie.Need-loop-again Inv-loop μ-loop
 loop-again c = omega arith
 
-returns-2 : tie.Need-returns-2 Inv-loop μ-loop
-returns-2 c = search needs
+returns : tie.Need-returns Inv-loop μ-loop
+returns c = search needs
 
-pub line-end-spec : {M : Type 1} → statement M
-line-end-spec =
+pub count-spec : {M : Type 1} → statement M
+count-spec =
     tie.close
     (tie.spec
     Inv-loop
     μ-loop
     loop-holds
     get-requires
-    returns
+    plus-requires
     add-at
     loop-less
     loop-again
-    returns-2)
+    returns)
