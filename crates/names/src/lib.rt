@@ -391,6 +391,9 @@ fn stands(names: &[u8], word: Word, label: u64) -> bool
     }
 }
 
+// How many bytes the longest good list has: 32 names of 16 bytes, each followed by one byte 10.
+pub const LONGEST: usize = 544;
+
 // The list is good: 1 to 32 different names of 1 to 16 bytes, each followed by one byte 10.
 pub fn good(names: &[u8]) -> bool
     ensures { λ r. ⌜ r ≡ goodNames (now (names .entry)) ⌝ }

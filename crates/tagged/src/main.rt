@@ -12,8 +12,8 @@ use libc::STDIN_FILENO;
 use libc::STDOUT_FILENO;
 use tags::reader::Cursor;
 
-// One byte more than the longest good list of names has: 32 names of 16 bytes, each with its line's end.
-const NAMES: usize = 545;
+// One byte more than the longest good list of names has, so that a longer one is seen to be longer.
+const NAMES: usize = names::LONGEST + 1;
 
 // How far the text is read: the cursor, the bytes taken, and whether to go on.
 struct Following {

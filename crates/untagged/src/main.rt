@@ -10,8 +10,8 @@ use grammar::Stop;
 use libc::STDIN_FILENO;
 use tags::writer::Scribe;
 
-// One byte more than the longest good list of names has: 32 names of 16 bytes, each with its line's end.
-const NAMES: usize = 545;
+// One byte more than the longest good list of names has, so that a longer one is seen to be longer.
+const NAMES: usize = names::LONGEST + 1;
 
 // So many bytes of input make a block.
 const BLOCK: usize = 4096;
