@@ -1,5 +1,6 @@
--- A text that comes in pieces, as a program reads it: each piece is fed with room for as many events as it has bytes. That
--- is the same as reading the whole text at once, up to its first fault. Assumes nothing.
+-- A text that comes in pieces, as a program reads it. Feeding the pieces is the same as reading the whole text at once, up to its
+-- first fault: where each piece is lent the room that the ones before have left, for any room; and where each is lent room for
+-- as many events as it has bytes, for room enough. Assumes nothing.
 use mathlib.Core.Path.{_≡_, refl, sym, ap, ap₂, _∙_}
 use mathlib.Core.Bool.{Bool, true, false, cond}
 use mathlib.Core.List.{List, [], _∷_, _++_}
@@ -12,14 +13,60 @@ use Rattle.grammar.specs.declared.Fault.the-variants as fault
 use Rattle.grammar.specs.declared.Stop.{Stop}
 use Rattle.grammar.specs.declared.Stop.the-variants.{Not, At}
 use Rattle.grammar.specs.Names.{linesOf, goodNames}
-use Rattle.grammar.specs.Feeding.{goesOn, Fed, Roomed, after, feed}
+use Rattle.grammar.specs.Feeding.{goesOn, Fed, Roomed, after, feed, roomed}
 use Rattle.grammar.specs.Reading.{readFed, endStop, textStop, answerOf, readAnswer}
 use Rattle.grammar.proofs.Feeding.{then, joined, feed-all, in-pieces, room-enough, withRoom}
 use Rattle.tags.specs.declared.reader.Cursor.{Cursor}
 use Rattle.tags.specs.declared.reader.Outcome.{Outcome}
 use Rattle.tags.specs.declared.reader.Outcome.the-variants as outcome
 use Rattle.tags.specs.Cursors.{begin, closedIn, stepOf, givenBy, cursorStep, feedIn, fedOf, wholeStop}
+use Rattle.tags.proofs.Agreeing.{FeedsAgree, InRoom}
+use Rattle.tags.proofs.Places.{closed-is}
 use Rattle.tags.proofs.WholeTexts.{mine, same, stop-is}
+
+---------------------------------------------------------------- room handed on
+
+-- Nothing is read yet, and there is room for so many events.
+abbrev pub unreadIn : ℕ → Fed (Roomed Cursor)
+unreadIn room = record { gives = []; taken = 0; state = record { inner = begin; left = room }; stops = Not }
+
+-- The calls of `feed` for pieces, one after another, each from the cursor and with the room that the one before left, up to a
+-- fault.
+abbrev pub handed : List ℕ → Fed (Roomed Cursor) → List (List ℕ) → Fed (Roomed Cursor)
+handed names f [] = f
+handed names f (s ∷ ss) =
+    handed names (cond (goesOn (f .stops)) (after (f .gives) (f .taken) (feedIn names (f .state .inner) (f .state .left) s)) f) ss
+
+-- The fault of a text that was read so: a byte's, or else the end's.
+abbrev pub endIn : Fed (Roomed Cursor) → Stop
+endIn f = cond (goesOn (f .stops)) (endStop (closedIn (f .state .inner)) (f .state .left)) (f .stops)
+
+handed-are : (names : List ℕ) (f : Fed (Roomed Cursor)) (ss : List (List ℕ)) → handed names f ss ≡ feed-all (roomed (cursorStep names)) f ss
+handed-are names f [] = refl
+handed-are names f (s ∷ ss) = handed-are names (then (roomed (cursorStep names)) f s) ss
+
+module _ (names : List ℕ) (good : goodNames names ≡ true) (room : ℕ) (ss : List (List ℕ)) where
+  all-handed : handed names (unreadIn room) ss ≡ mine names good (joined ss) room
+  all-handed =
+      handed-are names (unreadIn room) ss ∙ in-pieces (roomed (cursorStep names)) (record { inner = begin; left = room }) [] ss
+
+  end-is : endIn (mine names good (joined ss) room) ≡ textStop (readFed (linesOf names) room (joined ss))
+  end-is =
+      let s = same names good (joined ss) room in
+      rw (s .stops, closed-is (s .state .inner), s .state .left)
+
+  -- The same answer, whatever the room: how many events, or which fault at which place.
+  pub handed-answer : readAnswer names (joined ss) room
+      ≡ answerOf (endIn (handed names (unreadIn room) ss)) (handed names (unreadIn room) ss .taken) (length (handed names (unreadIn room) ss .gives))
+  handed-answer =
+      let s = same names good (joined ss) room in
+      rw (good, all-handed, end-is, s .taken, s .gives)
+
+  -- And the same events.
+  pub handed-events : readFed (linesOf names) room (joined ss) .gives ≡ handed names (unreadIn room) ss .gives
+  handed-events = sym (same names good (joined ss) room .gives) ∙ ap (λ (x : Fed (Roomed Cursor)). x .gives) (sym all-handed)
+
+---------------------------------------------------------------- room enough
 
 -- A byte gives at most one event.
 one-at-most : (o : Outcome) → length (givenBy o) ≤ 1
