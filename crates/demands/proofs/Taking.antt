@@ -9,7 +9,7 @@ use Rattle.meaning.specs.Refusals.{Line, firstOf}
 use Rattle.meaning.proofs.Refusals.{none-taken}
 use Rattle.bodies.specs.Sound.{statesIn}
 use Rattle.places.specs.Places.{rowAt}
-use Rattle.reports.specs.Reports.{onFront}
+use Rattle.meaning.specs.Lent.{onFront}
 use Rattle.stepping.proofs.Whole.{state-words, words-back}
 use Rattle.answers.specs.declared.Record.{Record}
 use Rattle.answers.specs.declared.Answer.{Answer}

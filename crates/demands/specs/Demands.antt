@@ -16,7 +16,8 @@ use Rattle.meaning.specs.Hedges.{Hedge, Labelled, streamOf, evaluate}
 use Rattle.meaning.specs.Refusals.{FirstAt, appliesAt}
 use Rattle.places.specs.Places.{workLength}
 use Rattle.places.specs.Memory.{Held, workWords}
-use Rattle.reports.specs.Reports.{selectedWord, failedWord, onFront}
+use Rattle.reports.specs.Reports.{selectedWord, failedWord}
+use Rattle.meaning.specs.Lent.{onFront}
 use Rattle.order.specs.declared.Shape.{Shape}
 use Rattle.order.specs.Order.{wordRight}
 use Rattle.answers.specs.declared.Record.{Record}

@@ -16,7 +16,8 @@ use Rattle.places.specs.Memory.{Held, Memory}
 use Rattle.rows.specs.declared.Step.{Step}
 use Rattle.rows.specs.declared.Step.the-variants as step
 use Rattle.rows.specs.Steps.{eventOf, Can}
-use Rattle.reports.specs.Reports.{endReports, onFront}
+use Rattle.reports.specs.Reports.{endReports}
+use Rattle.meaning.specs.Lent.{onFront}
 use Rattle.stepping.specs.Stepping.{Stands, Counted, stepMemory}
 use Rattle.answers.specs.declared.Record.{Record}
 use Rattle.answers.specs.declared.Answer.{Answer}

@@ -8,7 +8,8 @@ use Rattle.meaning.specs.Masks.{accsOf}
 use Rattle.meaning.specs.Refusals.{Line, firstOf}
 use Rattle.meaning.specs.Streams as stream
 use Rattle.places.specs.Memory.{Memory, memoryIn, workWords}
-use Rattle.reports.specs.Reports.{reportsOf, leftOf, endReports, onFront}
+use Rattle.reports.specs.Reports.{reportsOf, leftOf, endReports}
+use Rattle.meaning.specs.Lent.{onFront}
 use Rattle.stepping.specs.Stepping.{startMemory, stepMemory, leftMemory}
 use Rattle.answers.specs.declared.Record.{Record}
 use Rattle.answers.specs.declared.Answer.{Answer}

@@ -1,9 +1,10 @@
 -- Writing a stream as tagged text without blanks (02, K1): event by event, up to the first at fault. Definitions only.
 use mathlib.Core.Bool.{Bool, true, false, not, cond, _&&_}
-use mathlib.Core.List.{List, [], _∷_, _++_}
+use mathlib.Core.List.{List, [], _∷_}
 use Prim.Native.Nat.{ℕ}
 use lib.Dec.{eqb, ltb}
-use lib.ListN.{length, drop}
+use lib.ListN.{length}
+use Rattle.meaning.specs.Lent.{onFront}
 use Rattle.answers.specs.declared.Event.{Event}
 use Rattle.answers.specs.declared.Event.the-variants as event
 use Rattle.answers.specs.Bytes.{meaningOf}
@@ -71,5 +72,5 @@ abbrev pub writeOut : List ℕ → List ℕ → List ℕ → List ℕ
 writeOut names es out =
     let f = writeFed (linesOf names) es in
     cond (goodNames names && (wholeStream f && not (ltb (length out) (length (f .gives)))))
-    (f .gives ++ drop (length (f .gives)) out)
+    (onFront (f .gives) out)
     out

@@ -12,3 +12,4 @@ pub mod Earliest
 pub mod Hedges
 pub mod Refusals
 pub mod Contracts
+pub mod Lent

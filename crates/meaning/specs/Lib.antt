@@ -5,3 +5,4 @@ pub mod Sets
 pub mod Masks
 pub mod Rows
 pub mod Refusals
+pub mod Lent

@@ -1,37 +1,19 @@
 -- Reports put into a list: one row's report at a place, and one report after the other from the front. Assumes nothing.
 use mathlib.Core.Path.{_≡_, refl, sym, ap, _∙_}
 use mathlib.Core.Bool.{Bool, true, false, cond}
-use mathlib.Core.List.{List, [], _∷_, _++_, append-nil}
+use mathlib.Core.List.{List, [], _∷_, _++_}
 use Prim.Native.Nat.{ℕ, _+_, _<_, _≤_}
 use native.Mathlib.Nat.{add-zero}
-use native.Mathlib.Numerals.{add-one}
 use native.Mathlib.Omega.{arith}
-use lib.ListN.{length, set, take, drop, length-append, take-append-drop}
-use lib.Seq.{set-split, append-snoc, take-append-seam, drop-append-add, drop-drop}
+use lib.ListN.{length, set, length-append}
 use Rattle.meaning.specs.Table.{Table}
 use Rattle.meaning.specs.Rows.{isSelecting, isRejecting}
 use Rattle.places.specs.Places.{rowOf}
 use Rattle.places.specs.Memory.{Held, each, heldIn, heldsIn}
 use Rattle.places.proofs.Rows.{each-next}
-use Rattle.reports.specs.Reports.{selectedWord, failedWord, reportOf, endReport, putAt, onFront}
-
-put-one : (at x : ℕ) (words : List ℕ) → at < length words → set words at x ≡ putAt at (x ∷ []) words
-put-one at x words h = set-split words at x h ∙ sym (append-snoc (take at words) x _) ∙ ap (λ (k : ℕ). take at words ++ (x ∷ []) ++ drop k words) (sym (add-one at))
-
--- Nothing put leaves the words as they are.
-pub put-none : (at : ℕ) (words : List ℕ) → words ≡ putAt at [] words
-put-none at words =
-    sym (ap (λ (k : ℕ). take at words ++ [] ++ drop k words) (add-zero at) ∙ ap (λ (xs : List ℕ). xs ++ drop at words) (append-nil (take at words)) ∙ take-append-drop at words)
-
--- What is put after the reports so far is one more of them.
-pub put-more : (xs ys words : List ℕ) → putAt (length xs) ys (onFront xs words) ≡ onFront (xs ++ ys) words
-put-more xs ys words =
-    rw (
-      take-append-seam xs (drop (length xs) words),
-      drop-append-add xs (drop (length xs) words) (length ys),
-      drop-drop (length ys) (length xs) words,
-      length-append xs ys,
-    )
+use Rattle.reports.specs.Reports.{selectedWord, failedWord, reportOf, endReport}
+use Rattle.meaning.specs.Lent.{putAt, onFront}
+use Rattle.meaning.proofs.Lent.{put-none, put-one, put-more}
 
 module _ (h : Held) (at : ℕ) (words : List ℕ) where
   -- The place after the report, and the words with it.
@@ -45,7 +27,7 @@ module _ (h : Held) (at : ℕ) (words : List ℕ) where
   put-failed e f l = rw (e, f) (refl, put-one at (failedWord (h .position)) words l)
 
   pub put-nothing : isSelecting (h .row) ≡ false → isRejecting (h .row) ≡ false → Put at words
-  put-nothing e f = rw (e, f) (sym (add-zero at), put-none at words)
+  put-nothing e f = rw (e, f) (sym (add-zero at), sym (put-none at words))
 
 module _ (t : Table) (h : Held) (at : ℕ) (words : List ℕ) (l : at < length words) where
   pub put-final : t .final (h .row .newest .state) ≡ true → set words at (selectedWord (h .position)) ≡ putAt at (endReport t h) words

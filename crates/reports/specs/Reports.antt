@@ -1,8 +1,7 @@
 -- Rows after an event: which are reported and how, and which are left (01, "Record and work memory"). Definitions only.
 use mathlib.Core.Bool.{cond}
-use mathlib.Core.List.{List, [], _∷_, _++_}
+use mathlib.Core.List.{List, [], _∷_}
 use Prim.Native.Nat.{ℕ, _+_, _*_}
-use lib.ListN.{length, take, drop}
 use Rattle.meaning.specs.Table.{Table}
 use Rattle.meaning.specs.Rows.{isSelecting, isRejecting}
 use Rattle.places.specs.Memory.{Held, each}
@@ -38,11 +37,3 @@ endReport t h = cond (t .final (h .row .newest .state)) (selectedWord (h .positi
 
 abbrev pub endReports : Table → List Held → List ℕ
 endReports t hs = each (endReport t) hs
-
--- Words written over others, from a place on; what is past them stays.
-abbrev pub putAt : ℕ → List ℕ → List ℕ → List ℕ
-putAt at xs words = take at words ++ xs ++ drop (at + length xs) words
-
--- The same from the front.
-abbrev pub onFront : List ℕ → List ℕ → List ℕ
-onFront xs words = xs ++ drop (length xs) words

@@ -9,7 +9,8 @@ ghost use Rattle.bodies.specs.Sound.{Sound};
 ghost use Rattle.places.specs.Places.{positionAt, rowLength, rowOf};
 ghost use Rattle.places.specs.Memory.{rowIn, heldIn, heldsIn, RowIn, RowsIn};
 ghost use Rattle.rows.specs.Steps.{inRow};
-ghost use Rattle.reports.specs.Reports.{reportOf, reportsOf, endReport, endReports, putAt, onFront};
+ghost use Rattle.reports.specs.Reports.{reportOf, reportsOf, endReport, endReports};
+ghost use Rattle.meaning.specs.Lent.{putAt, onFront};
 
 // The report, if any, of a position whose newest state is s, in the sets of level d of the row; it is written at a place
 // of reports. Answers the place after it.

@@ -25,8 +25,10 @@ use Rattle.rows.specs.declared.Step.{Step}
 use Rattle.rows.specs.declared.Step.the-variants as step
 use Rattle.rows.specs.Steps.{eventOf, stepRow, onRow, inRow, isDecided}
 use Rattle.rows.proofs.Step.{the-type}
-use Rattle.reports.specs.Reports.{selectedWord, failedWord, reportOf, leftOver, leftOf, putAt}
-use Rattle.reports.proofs.Puts.{Put, put-none}
+use Rattle.reports.specs.Reports.{selectedWord, failedWord, reportOf, leftOver, leftOf}
+use Rattle.meaning.specs.Lent.{putAt}
+use Rattle.reports.proofs.Puts.{Put}
+use Rattle.meaning.proofs.Lent.{put-none}
 use Rattle.stepping.specs.declared.Counts.{Counts}
 use Rattle.stepping.specs.Stepping.{Stands, newOf, born, stepMemory}
 use Rattle.stepping.proofs.Kept.{left-append, left-few, map-length}
@@ -168,7 +170,7 @@ module _ (h : Held) (w left count : ℕ) (words reports : List ℕ) where
     pub added-none : ¬ (after ≡ count) → Added (record { alive = left; reports = after }) words told
     added-none e =
         let x : leftOver h ≡ [] = reported-gone h (omega (arith, p .0, e)) in
-        (rw (x, p .0, add-zero left), (rw x (put-none ((left + 1) * w) words), p .1))
+        (rw (x, p .0, add-zero left), (rw x (sym (put-none ((left + 1) * w) words)), p .1))
 
 -- Words that begin with a row 0 of w words: it is long enough, and its newest state is one of the table's.
 pub record First (t : Table) (w d : ℕ) (words : List ℕ) : Type 0 where

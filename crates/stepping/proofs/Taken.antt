@@ -15,7 +15,8 @@ use Rattle.places.proofs.Good.{Good, AllGood, first-row, later-rows, rows-of, h
 use Rattle.places.proofs.Good as good
 use Rattle.places.proofs.Rows.{each-append}
 use Rattle.rows.specs.Steps.{Can, stepRow, onRow, depthAfter}
-use Rattle.reports.specs.Reports.{leftOf, putAt}
+use Rattle.reports.specs.Reports.{leftOf}
+use Rattle.meaning.specs.Lent.{putAt}
 use Rattle.stepping.specs.Stepping.{Stands}
 use Rattle.stepping.proofs.Kept.{all-step, left-good, map-length}
 use Rattle.stepping.proofs.Whole.{rows-are, state-good, words-back}

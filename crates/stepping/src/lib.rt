@@ -12,7 +12,8 @@ ghost use Rattle.bodies.specs.Sound.{Sound};
 ghost use Rattle.places.specs.Places.{positionAt, rowLength, rowOf, workLength};
 ghost use Rattle.places.specs.Memory.{rowIn, memoryIn, allWords, workWords, RowIn, RowsIn};
 ghost use Rattle.rows.specs.Steps.{eventOf, Can, depthAfter};
-ghost use Rattle.reports.specs.Reports.{reportOf, reportsOf, leftOver, leftOf, endReports, putAt, onFront};
+ghost use Rattle.reports.specs.Reports.{reportOf, reportsOf, leftOver, leftOf, endReports};
+ghost use Rattle.meaning.specs.Lent.{putAt, onFront};
 ghost use Rattle.stepping.specs.Stepping.{Stands, Counted, Moves, newOf, stepMemory, leftMemory, countsOf, startMemory};
 use rows::Step;
 

@@ -15,8 +15,8 @@ use Rattle.tags.specs.declared.reader.Outcome.the-variants as outcome
 use Rattle.tags.specs.declared.reader.Stepped.{Stepped}
 use Rattle.tags.specs.declared.reader.Fed as read
 use Rattle.tags.specs.Cursors.{stepOf, cursorStep, givenBy, stopBy, feedIn, fedOf, feedOut}
-use Rattle.tags.specs.Writers.{putAt}
-use Rattle.tags.proofs.Putting.{put-nothing}
+use Rattle.meaning.specs.Lent.{putAt}
+use Rattle.meaning.proofs.Lent.{put-none}
 use Rattle.tags.proofs.Pieces.{Gives, Counts, Holds, gives-all, gives-stop, gives-short, gives-on, holds-out, holds-on}
 
 -- A step as the loops know it.
@@ -100,4 +100,4 @@ module _ (names : List ℕ) (a : Cursor) (piece out₀ : List ℕ) {out : List �
     pub holds-nothing : x .outcome ≡ outcome.Nothing → Holds (cursorStep names) a piece out₀ out (x .next) (taken + 1) given
     holds-nothing h =
         let z : given + 0 ≡ given = omega arith in
-        rw z at (holds-on (cursorStep names) a piece out₀ taken given w l 0 (by-nothing names next (getD piece taken 0) e h) refl (omega arith) (sym (put-nothing given out)))
+        rw z at (holds-on (cursorStep names) a piece out₀ taken given w l 0 (by-nothing names next (getD piece taken 0) e h) refl (omega arith) (sym (put-none given out)))

@@ -6,7 +6,6 @@ pub mod Loops
 pub mod Opened
 pub mod Pieces
 pub mod Places
-pub mod Putting
 pub mod Scribes
 pub mod Spaces
 pub mod WholeStreams

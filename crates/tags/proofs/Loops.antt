@@ -14,7 +14,8 @@ use Rattle.tags.specs.declared.writer.Given.the-variants as given
 use Rattle.tags.specs.declared.writer.Spelled.{Spelled}
 use Rattle.tags.specs.declared.writer.Space.{Space}
 use Rattle.tags.specs.declared.writer.Wrote.{Wrote}
-use Rattle.tags.specs.Writers.{spellStep, scribeStep, isFault, givesBy, stopBy, putAt, spaceOf, lessBy, followIn, followOf, writeIn, wroteOf, writtenOut}
+use Rattle.tags.specs.Writers.{spellStep, scribeStep, isFault, givesBy, stopBy, spaceOf, lessBy, followIn, followOf, writeIn, wroteOf, writtenOut}
+use Rattle.meaning.specs.Lent.{putAt}
 use Rattle.tags.proofs.Going.{Gone, gone-none, gone-on, gone-stop, gone-all}
 use Rattle.tags.proofs.Pieces.{roomIn, gives-all, gives-stop, gives-short, Holds, holds-out, holds-on}
 use Rattle.tags.proofs.Spaces.{space-all, space-less}

@@ -11,9 +11,9 @@ use Rattle.grammar.specs.declared.Stop.{Stop}
 use Rattle.grammar.specs.declared.Stop.the-variants.{Not, At}
 use Rattle.grammar.specs.Feeding.{Step, Fed, feed, Roomed, roomed, stepped}
 use Rattle.grammar.proofs.Feeding.{went, broke, roomed-fits, roomed-short, roomed-stop}
-use Rattle.tags.specs.Writers.{putAt}
+use Rattle.meaning.specs.Lent.{putAt}
 use Rattle.tags.proofs.Going.{Gone, gone-none, gone-on, gone-stop, gone-all}
-use Rattle.tags.proofs.Putting.{put-nothing, put-put, length-put}
+use Rattle.meaning.proofs.Lent.{put-none, put-put, length-put}
 
 -- A state with the room that is left.
 abbrev pub roomIn : {A : Type 0} → A → ℕ → Roomed A
@@ -70,7 +70,7 @@ pub record Holds {A : Type 0} (step : A → ℕ → Step A) (a : A) (piece out�
 
 module _ {A : Type 0} (step : A → ℕ → Step A) (a : A) (piece out₀ : List ℕ) where
   pub holds-none : Holds step a piece out₀ out₀ a 0 0
-  holds-none = record { gives = []; so-far = gives-none step a (length out₀) piece; holds = sym (put-nothing 0 out₀) }
+  holds-none = record { gives = []; so-far = gives-none step a (length out₀) piece; holds = sym (put-none 0 out₀) }
 
   module _ {out : List ℕ} {next : A} (taken given : ℕ) (w : Holds step a piece out₀ out next taken given) where
     room-held : 0 + length (w .gives) ≤ length out₀

@@ -1,10 +1,11 @@
 -- How far a text is read, as the reader holds it, and a byte's step in its terms. Definitions only. That this is the
 -- reading of `grammar` is proved.
 use mathlib.Core.Bool.{Bool, true, false, cond, _&&_, _||_}
-use mathlib.Core.List.{List, [], _∷_, _++_}
+use mathlib.Core.List.{List, [], _∷_}
 use Prim.Native.Nat.{ℕ, _+_, _-_, _%_}
 use lib.Dec.{eqb, ltb}
-use lib.ListN.{length, drop}
+use lib.ListN.{length}
+use Rattle.meaning.specs.Lent.{onFront}
 use Rattle.grammar.specs.declared.Fault.{Fault}
 use Rattle.grammar.specs.declared.Fault.the-variants as fault
 use Rattle.grammar.specs.declared.Stop.{Stop}
@@ -147,8 +148,7 @@ fedOf f = fedBy (f .state .inner) (f .taken) (length (f .gives)) (f .stops)
 -- The output after a piece: its events from the front, and nothing else changed.
 abbrev pub feedOut : List ℕ → Cursor → List ℕ → List ℕ → List ℕ
 feedOut names c piece out =
-    let f = feedIn names c (length out) piece in
-    f .gives ++ drop (length (f .gives)) out
+    onFront (feedIn names c (length out) piece .gives) out
 
 -- The fault of a whole text, if it has one: the first byte's, or else the end's.
 abbrev pub wholeStop : Fed → ℕ → Stop

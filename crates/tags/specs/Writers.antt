@@ -1,11 +1,12 @@
 -- How far a stream is written, as the writer holds it, and an event's step in its terms. Definitions only. That this is
 -- the writing of `grammar` is proved.
 use mathlib.Core.Bool.{Bool, true, false, not, cond, _&&_}
-use mathlib.Core.List.{List, [], _++_}
+use mathlib.Core.List.{List, []}
 use mathlib.Core.Path.{_≡_}
 use Prim.Native.Nat.{ℕ, _+_, _-_, _%_, _≤_}
 use lib.Dec.{eqb, ltb}
-use lib.ListN.{length, take, drop}
+use lib.ListN.{length}
+use Rattle.meaning.specs.Lent.{onFront}
 use Rattle.answers.specs.declared.Event.{Event}
 use Rattle.answers.specs.declared.Event.the-variants as event
 use Rattle.answers.specs.Bytes.{meaningOf}
@@ -93,10 +94,6 @@ pub record Writable (w : Word) : Type 0 where
   pub short : w .length ≤ 16
   pub room : length (w .bytes) ≡ 16
 
--- xs in a list's place from `at` on.
-abbrev pub putAt : ℕ → List ℕ → List ℕ → List ℕ
-putAt at xs out = take at out ++ (xs ++ drop (at + length xs) out)
-
 ---------------------------------------------------------------- a piece of a stream
 
 abbrev pub givesBy : Given → Word → List ℕ
@@ -143,5 +140,4 @@ wroteOf f = record { next = f .state .inner; taken = f .taken; given = length (f
 -- The output after a piece: its tags from the front, and nothing else changed.
 abbrev pub writtenOut : List ℕ → Scribe → List ℕ → List ℕ → List ℕ
 writtenOut names s piece out =
-    let f = writeIn names s (length out) piece in
-    f .gives ++ drop (length (f .gives)) out
+    onFront (writeIn names s (length out) piece .gives) out

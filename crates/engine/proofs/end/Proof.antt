@@ -9,7 +9,8 @@ use Rattle.meaning.specs.Table.{tableOf}
 use Rattle.places.specs.Places.{rowLength}
 use Rattle.places.specs.Memory.{memoryIn, RowsIn}
 use Rattle.places.proofs.Good.{rows-later, helds-length}
-use Rattle.reports.specs.Reports.{endReports, onFront}
+use Rattle.reports.specs.Reports.{endReports}
+use Rattle.meaning.specs.Lent.{onFront}
 use Rattle.stepping.proofs.Whole.{start-room}
 use Rattle.answers.specs.Answers.{takenOf}
 use Rattle.engine.specs.Calls.{memoryOf, ended}

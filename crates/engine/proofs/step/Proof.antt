@@ -8,7 +8,8 @@ use lib.ListN.{length}
 use Rattle.meaning.specs.Table.{tableOf}
 use Rattle.places.specs.Memory.{Memory, workWords}
 use Rattle.rows.specs.Steps.{eventOf}
-use Rattle.reports.specs.Reports.{leftOf, reportsOf, onFront}
+use Rattle.reports.specs.Reports.{leftOf, reportsOf}
+use Rattle.meaning.specs.Lent.{onFront}
 use Rattle.stepping.specs.Stepping.{leftMemory, countsOf}
 use Rattle.stepping.proofs.Kept.{moves-of}
 use Rattle.answers.specs.Record.{withAlive}

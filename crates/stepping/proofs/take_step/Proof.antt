@@ -12,8 +12,9 @@ use Rattle.meaning.specs.Rows.{Row}
 use Rattle.places.specs.Places.{rowLength, workLength, padded}
 use Rattle.places.specs.Memory.{Held, heldsIn, allWords, workWords}
 use Rattle.rows.specs.Steps.{eventOf, stepRow, onRow, depthAfter}
-use Rattle.reports.specs.Reports.{reportOf, reportsOf, leftOver, leftOf, putAt, onFront}
-use Rattle.reports.proofs.Puts.{put-more}
+use Rattle.reports.specs.Reports.{reportOf, reportsOf, leftOver, leftOf}
+use Rattle.meaning.specs.Lent.{putAt, onFront}
+use Rattle.meaning.proofs.Lent.{put-more}
 use Rattle.stepping.specs.Stepping.{newOf, born}
 use Rattle.stepping.proofs.Kept.{moves-of, none-born, one-born, counted-of, left-new, one-more, reports-few}
 use Rattle.stepping.proofs.Whole.{rest-part}

@@ -6,7 +6,7 @@ use native.Mathlib.Omega.{arith}
 use borrow.Author.Needs.{needs}
 use lib.ListN.{length, length-set}
 use Rattle.tags.specs.Cursors.{cursorStep}
-use Rattle.tags.proofs.Putting.{set-put}
+use Rattle.meaning.proofs.Lent.{put-one}
 use Rattle.tags.proofs.Pieces.{Holds, holds-none, holds-length}
 use Rattle.tags.proofs.Cursoring.{comes-all, comes-fault, comes-short, holds-answer, holds-event, holds-nothing}
 use Rattle.tags.proofs.reader.feed.Statement.{statement}
@@ -79,7 +79,7 @@ loop-again c = (
   ⊎-elim (λ w. omega (arith, w .5, w .3 .left)) (λ w. omega (arith, w .3)) (c .before .match .came),
   ⊎-elim (λ w. rw (w .4, length-set) (c .before .before .before .before .before .loop .inv .2)) (λ w. rw (w .2) (c .before .before .before .before .before .loop .inv .2)) (c .before .match .came),
   ⊎-elim
-      (λ w. rw (w .5) (holds-event (c .before .before .before .before .before .before .before .before .before .args .names .now) (c .before .before .before .before .before .before .before .before .before .args .cursor) (c .before .before .before .before .before .before .before .before .before .args .piece .now) (c .before .before .before .before .before .before .before .before .before .args .out .now) (c .before .before .before .before .before .loop .taken) (c .before .before .before .before .before .loop .given) (c .before .before .before .before .before .loop .inv .3) (omega arith) (c .before .before .step .ensures) (w .1 .given .1) (omega (arith, w .3 .left)) (w .4 ∙ set-put (c .before .before .before .before .before .loop .out) (c .before .before .before .before .before .loop .given) _ (omega (arith, w .3 .left)))))
+      (λ w. rw (w .5) (holds-event (c .before .before .before .before .before .before .before .before .before .args .names .now) (c .before .before .before .before .before .before .before .before .before .args .cursor) (c .before .before .before .before .before .before .before .before .before .args .piece .now) (c .before .before .before .before .before .before .before .before .before .args .out .now) (c .before .before .before .before .before .loop .taken) (c .before .before .before .before .before .loop .given) (c .before .before .before .before .before .loop .inv .3) (omega arith) (c .before .before .step .ensures) (w .1 .given .1) (omega (arith, w .3 .left)) (w .4 ∙ put-one (c .before .before .before .before .before .loop .given) _ (c .before .before .before .before .before .loop .out) (omega (arith, w .3 .left)))))
       (λ w. rw (w .3, w .2) (holds-nothing (c .before .before .before .before .before .before .before .before .before .args .names .now) (c .before .before .before .before .before .before .before .before .before .args .cursor) (c .before .before .before .before .before .before .before .before .before .args .piece .now) (c .before .before .before .before .before .before .before .before .before .args .out .now) (c .before .before .before .before .before .loop .taken) (c .before .before .before .before .before .loop .given) (c .before .before .before .before .before .loop .inv .3) (omega arith) (c .before .before .step .ensures) (w .1 .given .1)))
       (c .before .match .came),
 )

@@ -5,7 +5,7 @@ use native.Mathlib.Numerals.{add-one}
 use native.Mathlib.Omega.{arith}
 use lib.ListN.{length, length-set}
 use lib.Seq.{paste, paste-zero, paste-suc}
-use Rattle.tags.proofs.Putting.{put-pasted}
+use Rattle.meaning.proofs.Lent.{put-pasted}
 use Rattle.tags.proofs.writer.put.Statement.{statement}
 use Rattle.tags.proofs.writer.put.Tie as tie
 

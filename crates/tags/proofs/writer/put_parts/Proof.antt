@@ -3,7 +3,7 @@ use mathlib.Core.Path.{sym}
 use native.Mathlib.Omega.{arith}
 use lib.Seq.{length-take-le}
 use Rattle.names.specs.Words.{spelt}
-use Rattle.tags.proofs.Putting.{put-three}
+use Rattle.meaning.proofs.Lent.{put-three}
 use borrow.Author.Needs.{needs}
 use Rattle.tags.proofs.writer.put_parts.Statement.{statement}
 use Rattle.tags.proofs.writer.put_parts.Tie as tie

@@ -1,6 +1,6 @@
 -- `put_spelled` meets its contract.
 use mathlib.Core.Path.{sym}
-use Rattle.tags.proofs.Putting.{put-nothing}
+use Rattle.meaning.proofs.Lent.{put-none}
 use Rattle.tags.proofs.Words.{tag-length}
 use borrow.Author.Needs.{needs}
 use Rattle.tags.proofs.writer.put_spelled.Statement.{statement}
@@ -19,7 +19,7 @@ enum-told-2 : tie.Need-enum-told-2
 enum-told-2 c = search needs
 
 returns : tie.Need-returns
-returns c = rw (c .enum-told .given .1) (sym (put-nothing (c .before .before .before .before .args .at) (c .before .before .before .before .args .out .now)))
+returns c = rw (c .enum-told .given .1) (sym (put-none (c .before .before .before .before .args .at) (c .before .before .before .before .args .out .now)))
 
 same-length : tie.Need-same-length
 same-length c = search needs
@@ -28,7 +28,7 @@ returns-2 : tie.Need-returns-2
 returns-2 c = rw (c .before .before .before .before .before .given .given .1) (c .before .before .put-tag .ensures)
 
 returns-3 : tie.Need-returns-3
-returns-3 c = rw (c .enum-told2 .given .1) (sym (put-nothing (c .before .before .before .before .args .at) (c .before .before .before .before .args .out .now)))
+returns-3 c = rw (c .enum-told2 .given .1) (sym (put-none (c .before .before .before .before .args .at) (c .before .before .before .before .args .out .now)))
 
 pub put-spelled-spec : {M : Type 1} → statement M
 put-spelled-spec =
