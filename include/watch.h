@@ -24,10 +24,11 @@ extern "C" {
 /* The answer: the number of reports; the place that refusal 7 carries, and else 0; two words that are 0. */
 #define WATCH_ANSWER_WORDS 4
 
-/* The length of work memory, at most 8060. Rows are 1 to 64, the depth allowed is 1 to 40. */
-#define WATCH_WORK_WORDS(rows, depth) (((rows) + 1) * (1 + 3 * ((depth) + 1)))
+/* The length of work memory, at most 8100: the words of the rows, and one for each level. Rows are 1 to 64, the depth
+ * allowed is 1 to 40. */
+#define WATCH_WORK_WORDS(rows, depth) (((rows) + 1) * (1 + 3 * ((depth) + 1)) + (depth))
 
-/* Both calls return 0, or the number of the first of these that applies:
+/* Both calls return 0, or the number of the first of these that applies, in this order:
  *
  *   100  the record's or the answer's length is wrong: judged before all others, and nothing is written
  *     1  the table has under 29 bytes
@@ -39,9 +40,10 @@ extern "C" {
  *     7  record or work memory is not in order: the place is that of the first word of work memory at fault, from 0, or
  *        the length of work memory where the record by itself is not in order
  *     8  the watch has finished
- *     9  the byte is 66 to 255
+ *     9  the byte is 98 to 255
  *    10  the label is not one of the table's
  *    11  a close with nothing open
+ *    16  a close with another label than the one that opened the level
  *    12  an open at the depth allowed
  *    13  an end with a level open
  *    14  an open or point after position 2147483647
@@ -56,7 +58,8 @@ uint64_t watch_start(const uint8_t *table, size_t table_len, uint64_t rows, uint
                      uint64_t *work, size_t work_len, uint64_t *record, size_t record_len,
                      uint64_t *answer, size_t answer_len);
 
-/* Takes one event: 0 to 31 opens a node with that label, 32 to 63 is a point with label byte - 32, 64 closes, 65 ends.
+/* Takes one event: 0 to 31 opens a node with that label, 32 to 63 is a point with label byte - 32, 64 closes, 65 ends,
+ * 66 to 97 closes what was opened with label byte - 66.
  * The reports stand at the front of their memory, at least rows + 1 words, as many as the answer says, ascending:
  * 2 * position + 1 for selected, 2 * position for failed; the words after them stay. A refused event leaves record, work
  * memory and reports as they were. */

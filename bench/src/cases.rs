@@ -71,9 +71,11 @@ fn round_table(n: usize, onward: bool) -> Vec<u8> {
 }
 
 const LIGHT: [u8; 6] = [0, 1, 32, 64, 33, 64];
+/// The same with closes that name their labels.
+const LABELLED: [u8; 6] = [0, 1, 32, 67, 33, 66];
 const MIXED: [u8; 3] = [1, 33, 64];
 
-/// The four cases that the program `watch` can be given too: 64 rows, depth 40.
+/// The five cases that the program `watch` can be given too: 64 rows, depth 40.
 pub fn main_cases() -> Vec<Case> {
     let case = |name: &str, file, before, turn: &[u8], counted| Case {
         name: name.into(),
@@ -86,6 +88,7 @@ pub fn main_cases() -> Vec<Case> {
     };
     vec![
         case("few alive", table_w(), vec![], &LIGHT, 60),
+        case("few alive, labelled", table_w(), vec![], &LABELLED, 60),
         case("64 alive", doubt_table(), vec![32; 64], &[1, 33, 1, 64, 33, 64], 40),
         case("depth 40", table_w(), vec![1; 38], &LIGHT, 60),
         case("n 64, k 32", large_table(), vec![], &[3, 37, 11, 52, 64, 63, 64, 39], 3),

@@ -16,15 +16,15 @@ pub struct Tally {
     pub events: u64,
     /// Reports at their position's own event, later, and at the end.
     pub reports: [u64; 3],
-    /// By number; 16 stands for 100.
-    pub refused: [u64; 17],
+    /// By number; 17 stands for 100.
+    pub refused: [u64; 18],
     pub differed: u64,
 }
 
 impl Tally {
     pub fn count(&mut self, number: u64) {
         if number > 0 {
-            self.refused[if number == 100 { 16 } else { number as usize }] += 1;
+            self.refused[if number == 100 { 17 } else { number as usize }] += 1;
         }
     }
 
@@ -93,10 +93,11 @@ pub fn start(t: &mut Tally, file: &[u8], table: &Result<Table, u64>, rows: u64, 
     (meant, after)
 }
 
-/// After an event: the record that the rules foretell, and what the call said, its reports or the refusal's number.
+/// After an event: the record that the rules foretell, and what the call said, its reports or the refusal's number, and the place.
 pub struct After {
     pub record: [u64; 6],
     pub said: Result<Vec<u32>, u64>,
+    pub place: u64,
 }
 
 /// A call for an event, compared with what the rules foretell. Work memory is then as they foretell.
@@ -129,6 +130,7 @@ pub fn event(
         memory.clone_from(after);
     }
     let count = (answer.words()[0] as usize).min(room);
+    let place = answer.words()[1];
     let said = if number == 0 { Ok(reports.words()[..count].to_vec()) } else { Err(number) };
     let what = |part| format!("event {byte} after record {before:?}, table {:?}.., {part}", &file[..file.len().min(4)]);
     t.same(&what("number"), "the rules", &number, &meant.number);
@@ -137,30 +139,32 @@ pub fn event(
     t.same(&what("reports"), "the rules", &reports.back(), &(told, true));
     t.same(&what("work memory"), "the rules", &work.back(), &(memory.clone(), true));
     t.same(&what("the table"), "as lent", &lent.back(), &(file.to_vec(), true));
-    After { record: meant.record, said }
+    After { record: meant.record, said, place }
 }
 
-/// A run from the start over bytes that are asked for one by one, until there are no more: rules and second evaluator.
-/// Answers the last record and memory.
+/// A run from the start over bytes that are asked for one by one, by record and work memory, until there are no more: rules and second
+/// evaluator. Answers the last record and memory.
 pub fn run(
     t: &mut Tally,
     file: &[u8],
     table: &Result<Table, u64>,
     (rows, depth): (u64, u64),
-    mut next: impl FnMut(&[u64; 6]) -> Option<u8>,
+    mut next: impl FnMut(&[u64; 6], &[u64]) -> Option<u8>,
 ) -> ([u64; 6], Vec<u64>) {
     let old = vec![OLD; rules::work_length(rows, depth) as usize];
     let (first, mut work) = start(t, file, table, rows, depth, &old);
     let mut record = first.record;
     let mut second = Second::new(file, rows, depth);
     t.same("start, record", "the second evaluator", &record, &second.record());
-    while let Some(byte) = next(&record) {
+    while let Some(byte) = next(&record, &work) {
         let room = rows as usize + 1 + byte as usize % 3;
         let after = event(t, file, table, record, &mut work, room, byte);
         let meant = second.event(byte);
         t.same(&format!("event {byte} after record {record:?}"), "the second evaluator", &after.said, &meant);
         record = after.record;
         t.same("record after an event", "the second evaluator", &record, &second.record());
+        let levels = &work[work.len() - depth as usize..];
+        t.same("words of the levels after an event", "the second evaluator", &levels, &&second.level_words()[..]);
     }
     (record, work)
 }

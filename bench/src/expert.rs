@@ -4,7 +4,7 @@
 //! from which some hedge leads to a p with A(q,p) = s; so down(q,X) is one pass over the states outside X that A(q,.) names.
 //! State and masks are a struct, and those of all rows at one level lie side by side, since an event touches one or two levels of
 //! every row. A list of row numbers closes up, no row is ever moved; what is not in use is neither read nor cleared. Only the event
-//! byte is checked (8 to 15).
+//! byte is checked (8 to 16).
 //!
 //! Assumed: the file is a table, rows are 1 to 64, the depth allowed is 1 to 40.
 
@@ -49,6 +49,8 @@ struct Table {
 pub struct Expert {
     table: Box<Table>,
     pub levels: Vec<Levels>,
+    /// The label that opened each level, level 1 first.
+    pub labels: [u8; 40],
     /// The position of each row.
     pub position: [u32; 65],
     /// Numbers of rows: first those of the alive positions, ascending by position, then the free ones.
@@ -181,10 +183,22 @@ impl Expert {
         for (i, slot) in order.iter_mut().enumerate() {
             *slot = i as u8 + 1;
         }
-        Expert { table, levels, position: [0; 65], order, room, allowed, depth: 0, alive: 0, positions: 0, finished: false }
+        Expert {
+            table,
+            levels,
+            labels: [0; 40],
+            position: [0; 65],
+            order,
+            room,
+            allowed,
+            depth: 0,
+            alive: 0,
+            positions: 0,
+            finished: false,
+        }
     }
 
-    /// One event: the number of reports, or the refusal, of 8 to 15.
+    /// One event: the number of reports, or the refusal, of 8 to 16.
     pub fn event(&mut self, byte: u8, reports: &mut [u32]) -> Result<usize, u64> {
         if self.finished {
             return Err(8);
@@ -192,8 +206,9 @@ impl Expert {
         match byte {
             0..=31 => self.open(byte, reports),
             32..=63 => self.point(byte - 32, reports),
-            64 => self.close(reports),
+            64 => self.close(None, reports),
             65 => self.end(reports),
+            66..=97 => self.close(Some(byte - 66), reports),
             _ => Err(9),
         }
     }
@@ -220,6 +235,7 @@ impl Expert {
         if self.alive == self.room && self.is_crowded(d + 1, state, |level| level.verdict(state)) {
             return Err(15);
         }
+        self.labels[d] = a;
         self.depth = d + 1;
         let told = self.settle(reports);
         Ok(self.add(told, state, reports))
@@ -250,11 +266,18 @@ impl Expert {
         Ok(self.add(told, state, reports))
     }
 
-    fn close(&mut self, reports: &mut [u32]) -> Result<usize, u64> {
+    /// A close, with the label that it names, if it names one.
+    fn close(&mut self, named: Option<u8>, reports: &mut [u32]) -> Result<usize, u64> {
+        if named.is_some_and(|a| a >= self.table.labels) {
+            return Err(10);
+        }
         if self.depth == 0 {
             return Err(11);
         }
         let d = self.depth;
+        if named.is_some_and(|a| a != self.labels[d - 1]) {
+            return Err(16);
+        }
         let (below, above) = self.levels.split_at_mut(d);
         let (below, above) = (&mut below[d - 1], &above[0]);
         let mut close = |r: usize| {

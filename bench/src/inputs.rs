@@ -205,18 +205,34 @@ pub const WAYS: [Way; 6] = [
     Way { opens: 4, closes: 9, odd: 12 },
 ];
 
-/// The next byte of such a stream over k labels.
-pub fn next_byte(c: &mut Chance, way: Way, k: usize) -> u8 {
+/// The next byte of such a stream over k labels, with the label of the newest level, where one is open.
+pub fn next_byte(c: &mut Chance, way: Way, k: usize, newest: Option<u8>) -> u8 {
     if c.one_in(way.odd) {
-        let limit = c.pick(&[70, 256]);
+        let limit = c.pick(&[70, 100, 256]);
         return c.below(limit) as u8;
     }
     let label = c.below(k as u64) as u8;
     match c.below(16) {
         x if x < way.opens => label,
-        x if x < way.opens + way.closes => 64,
+        x if x < way.opens + way.closes => next_close(c, label, newest),
         _ => 32 + label,
     }
+}
+
+/// A close: one without a label, one with the newest level's, or, one in six, one with this label.
+pub fn next_close(c: &mut Chance, label: u8, newest: Option<u8>) -> u8 {
+    match c.below(6) {
+        0 | 1 => 64,
+        2 => 66 + label,
+        _ => 66 + newest.unwrap_or(label),
+    }
+}
+
+/// The label of the newest level, where one is open, by a record and work memory in order.
+pub fn newest_label(record: &[u64; 6], work: &[u64]) -> Option<u8> {
+    let [_, allowed, depth, ..] = *record;
+    let newest = depth.checked_sub(1)?;
+    Some(work[work.len() - (allowed - newest) as usize] as u8 - 1)
 }
 
 /// Rows, 1 to 64, small ones oftener; the same for the depth allowed, 1 to 40.
@@ -239,8 +255,8 @@ fn set_word(c: &mut Chance, n: usize) -> u64 {
     }
 }
 
-/// A record and work memory in order, for n states, that no run need have left.
-pub fn wild_memory(c: &mut Chance, n: usize) -> ([u64; 6], Vec<u64>) {
+/// A record and work memory in order, for n states and k labels, that no run need have left.
+pub fn wild_memory(c: &mut Chance, n: usize, k: usize) -> ([u64; 6], Vec<u64>) {
     let (rows, allowed) = sizes(c);
     let depth = c.pick(&[c.0 % (allowed + 1), allowed, 0, allowed - 1]);
     let alive = c.pick(&[c.0 % (rows + 1), rows, rows, 0]);
@@ -260,6 +276,7 @@ pub fn wild_memory(c: &mut Chance, n: usize) -> ([u64; 6], Vec<u64>) {
             level[2] = set_word(c, n);
         }
     }
+    work.extend((0..allowed).map(|level| if level < depth { c.between(1, k as u64) } else { 0 }));
     let read = match c.below(4) {
         0 => position,
         1 => 2_147_483_647 - c.below(3),
@@ -305,11 +322,12 @@ pub fn damage_table(c: &mut Chance, file: &mut Vec<u8>) {
 }
 
 /// Puts a record or work memory, in order until now, out of order in one way. At times nothing is hurt.
-pub fn breach(c: &mut Chance, n: usize, record: &mut [u64; 6], work: &mut [u64]) {
+pub fn breach(c: &mut Chance, n: usize, k: usize, record: &mut [u64; 6], work: &mut [u64]) {
     let [rows, allowed, depth, alive, read, _] = *record;
     let width = 1 + 3 * (allowed as usize + 1);
     let row = |c: &mut Chance, rows: u64| c.below(rows + 1) as usize * width;
-    match c.below(16) {
+    let labels = work.len() - allowed as usize;
+    match c.below(20) {
         0 => record[3] = c.pick(&[rows + 1, rows + 2, u64::MAX, 1 << 32]),
         1 => record[2] = c.pick(&[allowed + 1, u64::MAX, 1 << 32]),
         2 => record[4] = c.pick(&[2_147_483_648, u64::MAX, 1 << 32]),
@@ -320,7 +338,9 @@ pub fn breach(c: &mut Chance, n: usize, record: &mut [u64; 6], work: &mut [u64])
             // Finished and in order, but for one word.
             *record = [rows, allowed, 0, 0, read, 1];
             work.fill(0);
-            work[c.0 as usize % work.len()] = c.pick(&[1, u64::MAX]);
+            let from = c.pick(&[0, 0, 0, labels]);
+            let at = c.between(from as u64, work.len() as u64 - 1) as usize;
+            work[at] = c.pick(&[1, u64::MAX]);
         }
         6 => work[0] = c.pick(&[1, read, u64::MAX]),
         7 | 8 => {
@@ -340,12 +360,22 @@ pub fn breach(c: &mut Chance, n: usize, record: &mut [u64; 6], work: &mut [u64])
         }
         // A word of a row not in use.
         12 if alive < rows => {
-            let at = c.between((alive + 1) * width as u64, work.len() as u64 - 1) as usize;
+            let at = c.between((alive + 1) * width as u64, labels as u64 - 1) as usize;
             work[at] = c.pick(&[1, u64::MAX, 1 << 63]);
         }
         // A count that does not fit the words.
         13 => record[3] = c.between(0, rows),
         14 => record[2] = c.between(0, allowed),
+        // The word of an open level.
+        15 | 16 if depth > 0 => {
+            let label = c.between(1, k as u64);
+            work[labels + c.below(depth) as usize] = c.pick(&[0, k as u64 + 1, 33, u64::MAX, 1 << 32, label]);
+        }
+        // The word of a level that is not open.
+        17 if depth < allowed => {
+            let at = labels + c.between(depth, allowed - 1) as usize;
+            work[at] = c.pick(&[1, k as u64, u64::MAX, 1 << 63]);
+        }
         _ => {
             for _ in 0..c.between(1, 3) {
                 let at = c.below(work.len() as u64) as usize;

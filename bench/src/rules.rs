@@ -1,5 +1,5 @@
-//! 01's rules read to the letter: for any table, record, work memory, room for reports and byte, every word that a call leaves
-//! behind, or the refusal with its place.
+//! The rules of 01, and of 02's K2, read to the letter: for any table, record, work memory, room for reports and byte, every word
+//! that a call leaves behind, or the refusal with its place.
 //!
 //! Sets are vectors of bools and are closed until nothing is added. Nothing here is quick, and nothing is shared with the
 //! expert program or with the evaluator in second.rs.
@@ -136,9 +136,14 @@ fn has(set: u64, state: u64) -> bool {
     (set >> state) & 1 == 1
 }
 
-/// How many words work memory has, for rows and depth in range.
+/// How many words work memory has, for rows and depth in range: those of the rows, and one for each allowed level.
 pub fn work_length(rows: u64, depth: u64) -> u64 {
-    (rows + 1) * (1 + 3 * (depth + 1))
+    (rows + 1) * (1 + 3 * (depth + 1)) + depth
+}
+
+/// Where the word of a level, counted from 1, stands in work memory.
+fn label_at(rows: u64, allowed: u64, level: u64) -> usize {
+    (work_length(rows, allowed) - allowed + level - 1) as usize
 }
 
 /// Is the first part of line 6 passed?
@@ -159,11 +164,11 @@ pub fn start(table: &Result<Table, u64>, rows: u64, depth: u64, work: usize) -> 
     let others: Vec<bool> = table.finals.iter().map(|f| !f).collect();
     let level = [table.start as u64, table.safe(&table.finals), table.safe(&others)];
     let row = Row { position: 0, levels: vec![level] };
-    Left { number: 0, place: 0, record: [rows, depth, 0, 0, 0, 0], reports: vec![], work: Some(words(&[row], rows, depth)) }
+    Left { number: 0, place: 0, record: [rows, depth, 0, 0, 0, 0], reports: vec![], work: Some(words(&[row], &[], rows, depth)) }
 }
 
-/// The words that rows stand for.
-fn words(rows: &[Row], count: u64, depth: u64) -> Vec<u64> {
+/// The words that rows stand for, and behind them those of the levels, which were opened with these labels.
+fn words(rows: &[Row], labels: &[u64], count: u64, depth: u64) -> Vec<u64> {
     let width = 1 + 3 * (depth as usize + 1);
     let mut words = vec![0; work_length(count, depth) as usize];
     for (row, place) in rows.iter().zip(words.chunks_mut(width)) {
@@ -172,18 +177,26 @@ fn words(rows: &[Row], count: u64, depth: u64) -> Vec<u64> {
             place.copy_from_slice(level);
         }
     }
+    for (level, label) in (1..).zip(labels) {
+        words[label_at(count, depth, level)] = label + 1;
+    }
     words
 }
 
 /// The place that refusal 7 names, if record or work memory is not in order. Sizes are right.
-fn fault(n: usize, record: &[u64; 6], work: &[u64]) -> Option<u64> {
+fn fault(n: usize, k: usize, record: &[u64; 6], work: &[u64]) -> Option<u64> {
     let [rows, allowed, depth, alive, read, finished] = *record;
     if alive > rows || depth > allowed || read > LAST || finished > 1 || (finished == 1 && (depth > 0 || alive > 0)) {
         return Some(work.len() as u64);
     }
     let width = 1 + 3 * (allowed as usize + 1);
+    let first = label_at(rows, allowed, 1);
     let right = |at: usize| {
         let (row, word) = (at / width, work[at]);
+        if at >= first {
+            let level = (at - first) as u64 + 1;
+            return if level <= depth { (1..=k as u64).contains(&word) } else { word == 0 };
+        }
         let in_row = at % width;
         let level = if in_row == 0 { 0 } else { (in_row - 1) / 3 } as u64;
         if finished == 1 || row as u64 > alive || level > depth {
@@ -209,18 +222,22 @@ pub fn event(table: &Result<Table, u64>, record: [u64; 6], work: &[u64], reports
     if !sizes_right(rows, allowed, work.len()) || (reports as u64) < rows + 1 {
         return refused(6, 0);
     }
-    if let Some(place) = fault(table.n, &record, work) {
+    if let Some(place) = fault(table.n, table.k, &record, work) {
         return refused(7, place);
     }
     if finished == 1 {
         return refused(8, 0);
     }
     let (opens, points) = (byte <= 31, (32..=63).contains(&byte));
-    let label = (byte % 32) as usize;
+    let names = (66..=97).contains(&byte);
+    let closes = byte == 64 || names;
+    let label = if names { byte - 66 } else { byte % 32 } as usize;
+    let newest = if depth == 0 { 0 } else { work[label_at(rows, allowed, depth)] };
     let lines = [
-        (9, byte >= 66),
-        (10, (opens || points) && label >= table.k),
-        (11, byte == 64 && depth == 0),
+        (9, byte >= 98),
+        (10, (opens || points || names) && label >= table.k),
+        (11, closes && depth == 0),
+        (16, names && newest != label as u64 + 1),
         (12, opens && depth == allowed),
         (13, byte == 65 && depth > 0),
         (14, (opens || points) && read == LAST),
@@ -246,6 +263,12 @@ pub fn event(table: &Result<Table, u64>, record: [u64; 6], work: &[u64], reports
             work: Some(vec![0; work.len()]),
         };
     }
+    let mut labels: Vec<u64> = (1..=depth).map(|level| work[label_at(rows, allowed, level)] - 1).collect();
+    if opens {
+        labels.push(label as u64);
+    } else if closes {
+        labels.pop();
+    }
     for row in &mut now {
         let newest = row.levels.len() - 1;
         let [q, selecting, rejecting] = row.levels[newest];
@@ -262,7 +285,7 @@ pub fn event(table: &Result<Table, u64>, record: [u64; 6], work: &[u64], reports
     }
     let mut next = record;
     next[2] = now[0].levels.len() as u64 - 1;
-    if byte != 64 {
+    if !closes {
         next[4] = read + 1;
         let mut new = now[0].clone();
         new.position = read + 1;
@@ -286,5 +309,5 @@ pub fn event(table: &Result<Table, u64>, record: [u64; 6], work: &[u64], reports
     if next[3] > rows {
         return refused(15, 0);
     }
-    Left { number: 0, place: 0, record: next, reports: told, work: Some(words(&left, rows, allowed)) }
+    Left { number: 0, place: 0, record: next, reports: told, work: Some(words(&left, &labels, rows, allowed)) }
 }

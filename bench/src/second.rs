@@ -1,9 +1,9 @@
 //! The second evaluator: it decides by the meaning of completions, without safe sets, rows or work memory.
 //!
 //! It keeps the whole stream. The run marked at a position is worked out from the stream's first byte at every event: a stack of
-//! states, one for each open level. Which states some hedge leads to from a state is found by saturation. From the newest level
-//! down to level 0 it works out the end states that some completion reaches: a position is certain if all of them are final,
-//! ruled out if none is.
+//! states, one for each open level; so are the labels of the open levels. Which states some hedge leads to from a state is found
+//! by saturation. From the newest level down to level 0 it works out the end states that some completion reaches: a position is
+//! certain if all of them are final, ruled out if none is.
 //!
 //! Assumed: the file is a table, and the watch was started with these rows and this depth.
 
@@ -88,7 +88,7 @@ impl<'a> Second<'a> {
         let mut position = 0;
         for &byte in &self.stream {
             let q = stack.pop().unwrap();
-            if byte == 64 {
+            if is_close(byte) {
                 let outside = stack.pop().unwrap();
                 stack.push(self.apply(outside, q));
                 continue;
@@ -130,9 +130,17 @@ impl<'a> Second<'a> {
         }
     }
 
-    fn depth_now(&self) -> usize {
-        let opens = self.stream.iter().filter(|&&b| b < 32).count();
-        opens - self.stream.iter().filter(|&&b| b == 64).count()
+    /// The labels with which the open levels were opened, level 1 first.
+    fn open_labels(&self) -> Vec<u8> {
+        let mut labels = vec![];
+        for &byte in &self.stream {
+            if byte < 32 {
+                labels.push(byte);
+            } else if is_close(byte) {
+                labels.pop();
+            }
+        }
+        labels
     }
 
     fn positions(&self) -> u64 {
@@ -145,21 +153,31 @@ impl<'a> Second<'a> {
 
     /// The record that a watch has now.
     pub fn record(&self) -> [u64; 6] {
-        let numbers = [self.rows, self.depth, self.depth_now(), self.doubt.len()];
+        let numbers = [self.rows, self.depth, self.open_labels().len(), self.doubt.len()];
         let [rows, depth, now, alive] = numbers.map(|x| x as u64);
         [rows, depth, now, alive, self.positions(), self.has_ended() as u64]
     }
 
-    /// One byte: the reports that have to come at it, or the refusal, of 8 to 15.
+    /// The words of the levels that a watch has now: 1 + the label of an open one, and 0 of the others.
+    pub fn level_words(&self) -> Vec<u64> {
+        let mut words: Vec<u64> = self.open_labels().iter().map(|&label| label as u64 + 1).collect();
+        words.resize(self.depth, 0);
+        words
+    }
+
+    /// One byte: the reports that have to come at it, or the refusal, of 8 to 16.
     pub fn event(&mut self, byte: u8) -> Result<Vec<u32>, u64> {
         if self.has_ended() {
             return Err(8);
         }
-        let depth = self.depth_now();
+        let open = self.open_labels();
+        let depth = open.len();
         match byte {
-            66.. => return Err(9),
+            98.. => return Err(9),
             0..=63 if byte as usize % 32 >= self.k => return Err(10),
-            64 if depth == 0 => return Err(11),
+            66..=97 if byte as usize - 66 >= self.k => return Err(10),
+            64 | 66..=97 if depth == 0 => return Err(11),
+            66..=97 if byte - 66 != open[depth - 1] => return Err(16),
             0..=31 if depth == self.depth => return Err(12),
             65 if depth > 0 => return Err(13),
             _ => {}
@@ -190,6 +208,11 @@ impl<'a> Second<'a> {
         self.doubt = doubt;
         Ok(told)
     }
+}
+
+/// A close, whether it names its label or not.
+fn is_close(byte: u8) -> bool {
+    byte == 64 || (66..=97).contains(&byte)
 }
 
 fn report(position: u64, selected: bool) -> u32 {

@@ -8,8 +8,8 @@ use std::slice::{from_raw_parts, from_raw_parts_mut};
 
 const LAST: u64 = 2_147_483_647;
 
-/// 1 to 5, or n.
-fn judge_table(file: &[u8]) -> Result<u64, u64> {
+/// 1 to 5, or n and k.
+fn judge_table(file: &[u8]) -> Result<(u64, u64), u64> {
     if file.len() < 29 {
         return Err(1);
     }
@@ -33,15 +33,20 @@ fn judge_table(file: &[u8]) -> Result<u64, u64> {
     if states.iter().any(|&q| q as usize >= n) || finals.iter().any(|&b| b > 1) {
         return Err(5);
     }
-    Ok(n as u64)
+    Ok((n as u64, k as u64))
+}
+
+/// How many words the rows have.
+fn rows_length(rows: u64, allowed: u64) -> u64 {
+    (rows + 1) * (3 * allowed + 4)
 }
 
 fn sizes_right(rows: u64, allowed: u64, work: usize) -> bool {
-    (1..=64).contains(&rows) && (1..=40).contains(&allowed) && work as u64 == (rows + 1) * (3 * allowed + 4)
+    (1..=64).contains(&rows) && (1..=40).contains(&allowed) && work as u64 == rows_length(rows, allowed) + allowed
 }
 
 /// The place of refusal 7, if record or work memory is out of order.
-fn fault(n: u64, record: &[u64], work: &[u64]) -> Option<usize> {
+fn fault(n: u64, k: u64, record: &[u64], work: &[u64]) -> Option<usize> {
     let (rows, allowed, depth, alive, read, finished) = (record[0], record[1], record[2], record[3], record[4], record[5]);
     if alive > rows || depth > allowed || read > LAST || finished > 1 {
         return Some(work.len());
@@ -51,8 +56,9 @@ fn fault(n: u64, record: &[u64], work: &[u64]) -> Option<usize> {
         return if depth + alive > 0 { Some(work.len()) } else { at };
     }
     let width = 3 * allowed as usize + 4;
+    let (words, labels) = work.split_at(rows_length(rows, allowed) as usize);
     let mut before = 0;
-    for (r, row) in work.chunks(width).enumerate() {
+    for (r, row) in words.chunks(width).enumerate() {
         let levels = if r as u64 <= alive { depth as usize + 1 } else { 0 };
         if r == 0 || levels == 0 {
             if row[0] != 0 {
@@ -69,6 +75,12 @@ fn fault(n: u64, record: &[u64], work: &[u64]) -> Option<usize> {
             }
         }
     }
+    for (i, &label) in labels.iter().enumerate() {
+        let used = (i as u64) < depth;
+        if (!used && label != 0) || (used && (label == 0 || label > k)) {
+            return Some(words.len() + i);
+        }
+    }
     None
 }
 
@@ -78,7 +90,11 @@ fn load(file: &[u8], record: &[u64], work: &[u64]) -> Expert {
     expert.depth = record[2] as usize;
     expert.alive = record[3] as usize;
     expert.positions = record[4] as u32;
-    for (r, words) in work.chunks(3 * record[1] as usize + 4).enumerate() {
+    let (rows, labels) = work.split_at(rows_length(record[0], record[1]) as usize);
+    for (i, &label) in labels[..expert.depth].iter().enumerate() {
+        expert.labels[i] = label as u8 - 1;
+    }
+    for (r, words) in rows.chunks(3 * record[1] as usize + 4).enumerate() {
         expert.position[r] = words[0] as u32;
         for (level, words) in expert.levels.iter_mut().zip(words[1..].chunks(3)) {
             level[r] = Level { state: words[0], selecting: words[1], rejecting: words[2] };
@@ -97,7 +113,11 @@ fn store(expert: &Expert, record: &mut [u64], work: &mut [u64]) {
     if expert.finished {
         return;
     }
-    let mut places = work.chunks_mut(3 * expert.allowed + 4);
+    let (rows, labels) = work.split_at_mut(rows_length(record[0], record[1]) as usize);
+    for (i, &label) in expert.labels[..expert.depth].iter().enumerate() {
+        labels[i] = label as u64 + 1;
+    }
+    let mut places = rows.chunks_mut(3 * expert.allowed + 4);
     for r in std::iter::once(0).chain(expert.order[..expert.alive].iter().map(|&r| r as usize)) {
         let words = places.next().unwrap();
         words[0] = expert.position[r] as u64;
@@ -160,14 +180,14 @@ pub unsafe extern "C" fn watch_event(
         return 100;
     }
     answer.fill(0);
-    let n = match judge_table(file) {
+    let (n, k) = match judge_table(file) {
         Err(number) => return number,
-        Ok(n) => n,
+        Ok(sizes) => sizes,
     };
     if !sizes_right(record[0], record[1], work.len()) || (reports.len() as u64) < record[0] + 1 {
         return 6;
     }
-    if let Some(place) = fault(n, record, work) {
+    if let Some(place) = fault(n, k, record, work) {
         answer[1] = place as u64;
         return 7;
     }

@@ -19,7 +19,7 @@ use rules::Table;
 use second::Second;
 use std::process::ExitCode;
 
-/// 01's worked cases, with the numbers that stand there.
+/// 01's worked cases, with the numbers that stand there, case 12 as K2 has it; then some of K2's own.
 fn worked_cases(t: &mut Tally) {
     let (w, l) = (inputs::table_w(), inputs::table_l());
     let (tw, tl) = (rules::read(&w), rules::read(&l));
@@ -34,9 +34,9 @@ fn worked_cases(t: &mut Tally) {
         let downs = [w.down(0, 4), w.down(0, 25), w.down(1, 25), w.down(2, 4)];
         t.same("cases 4 to 6", "01", &downs, &[4, 25, 8, 21]);
     }
-    let (left, work) = start(t, &w, &tw, 1, 1, &[OLD; 14]);
+    let (left, work) = start(t, &w, &tw, 1, 1, &[OLD; 15]);
     t.same("case 3", "01", &(left.number, &work[..4]), &(0, &[0, 0, 4, 25][..]));
-    let cases: [(&str, u64, u64, &[u8], &[u64], &[&[u32]]); 10] = [
+    let cases: [(&str, u64, u64, &[u8], &[u64], &[&[u32]]); 15] = [
         ("7", 64, 40, &[0, 33], &[0, 0], &[&[], &[3, 4]]),
         ("8", 1, 40, &[0, 0, 33], &[0, 15, 0], &[&[], &[], &[3, 4]]),
         ("9, L", 1, 40, &[32, 32, 65], &[0, 0, 0], &[&[], &[2], &[5]]),
@@ -45,13 +45,18 @@ fn worked_cases(t: &mut Tally) {
         ("12", 64, 1, &[0, 0], &[0, 12], &[&[], &[]]),
         ("12", 64, 40, &[64], &[11], &[&[]]),
         ("12", 64, 40, &[0, 65], &[0, 13], &[&[], &[]]),
-        ("12", 64, 40, &[2, 66], &[10, 9], &[&[], &[]]),
+        ("12", 64, 40, &[2, 66], &[10, 11], &[&[], &[]]),
         ("the program's", 64, 40, &[0, 33, 0, 64, 64, 65], &[0; 6], &[&[], &[3, 4], &[], &[6], &[], &[]]),
+        ("labelled", 64, 40, &[0, 33, 0, 66, 66, 65], &[0; 6], &[&[], &[3, 4], &[], &[6], &[], &[]]),
+        ("a wrong label", 64, 40, &[0, 1, 66, 67, 67, 66], &[0, 0, 16, 0, 16, 0], &[&[], &[4], &[], &[], &[], &[2]]),
+        ("both closes", 64, 2, &[0, 1, 64, 1, 67, 64], &[0; 6], &[&[], &[4], &[], &[6], &[], &[2]]),
+        ("nothing open", 64, 40, &[68, 67, 66, 64], &[10, 11, 11, 11], &[&[], &[], &[], &[]]),
+        ("the first byte of no meaning", 64, 40, &[97, 98], &[10, 9], &[&[], &[]]),
     ];
     for (name, rows, depth, bytes, numbers, reports) in cases {
         let (file, table) = if name.ends_with('L') { (&l, &tl) } else { (&w, &tw) };
         let mut rest = bytes.iter().copied();
-        run(t, file, table, (rows, depth), |_| rest.next());
+        run(t, file, table, (rows, depth), |_, _| rest.next());
         let (first, mut work) = start(t, file, table, rows, depth, &vec![7; rules::work_length(rows, depth) as usize]);
         let mut record = first.record;
         for (i, &byte) in bytes.iter().enumerate() {
@@ -68,19 +73,20 @@ fn random_run(t: &mut Tally, c: &mut Chance, file: &[u8], table: &Result<Table, 
     let mut way = c.pick(&WAYS);
     let (mut left, mut after) = (bytes, c.below(3));
     let ends = !c.one_in(4);
-    run(t, file, table, sizes, |record| {
+    run(t, file, table, sizes, |record, work| {
         if record[5] == 1 {
             after = after.wrapping_sub(1);
-            return (after < 3).then(|| c.pick(&[0, 32, 64, 65, 66, 31, 255]));
+            return (after < 3).then(|| c.pick(&[0, 32, 64, 65, 66, 98, 31, 255]));
         }
+        let newest = inputs::newest_label(record, work);
         if left == 0 {
-            return ends.then_some(if record[2] > 0 { 64 } else { 65 });
+            return ends.then(|| newest.map_or(65, |label| inputs::next_close(c, label, newest)));
         }
         left -= 1;
         if c.one_in(20) {
             way = c.pick(&WAYS);
         }
-        Some(inputs::next_byte(c, way, file[1] as usize))
+        Some(inputs::next_byte(c, way, file[1] as usize, newest))
     });
 }
 
@@ -154,7 +160,7 @@ fn examples(t: &mut Tally, c: &mut Chance) -> u64 {
         let table = rules::read(&file);
         t.tables += 1;
         if table.is_err() {
-            start(t, &file, &table, 64, 40, &[OLD; 8060]);
+            start(t, &file, &table, 64, 40, &[OLD; 8100]);
             continue;
         }
         let stream = std::fs::read(folder.join("stream")).unwrap_or_default();
@@ -162,7 +168,7 @@ fn examples(t: &mut Tally, c: &mut Chance) -> u64 {
             t.same(&format!("lines of {}", folder.display()), "the example", &lines(&file, &stream), &meant);
         }
         let mut rest = stream.iter().copied().take(1500);
-        run(t, &file, &table, (64, 40), |_| rest.next());
+        run(t, &file, &table, (64, 40), |_, _| rest.next());
         for _ in 0..10 {
             let sizes = inputs::sizes(c);
             random_run(t, c, &file, &table, sizes, 60);
@@ -184,9 +190,10 @@ fn wild_runs(t: &mut Tally, c: &mut Chance) {
         let file = inputs::random_table(c, n, k);
         let table = rules::read(&file);
         t.tables += 1;
-        let (mut record, mut work) = inputs::wild_memory(c, n);
+        let (mut record, mut work) = inputs::wild_memory(c, n, k);
         for _ in 0..c.between(1, 6) {
-            let byte = if c.one_in(20) { 65 } else { inputs::next_byte(c, calm, k) };
+            let newest = inputs::newest_label(&record, &work);
+            let byte = if c.one_in(20) { 65 } else { inputs::next_byte(c, calm, k, newest) };
             let room = c.between(record[0] + 1, record[0] + 4) as usize;
             record = event(t, &file, &table, record, &mut work, room, byte).record;
         }
@@ -205,8 +212,10 @@ fn damaged_tables(t: &mut Tally, c: &mut Chance) {
         let (rows, depth) = inputs::sizes(c);
         let old = vec![c.word(); rules::work_length(rows, depth) as usize];
         start(t, &file, &table, rows, depth, &old);
-        let (record, mut work) = inputs::wild_memory(c, table.as_ref().map_or(n, |t| t.n));
-        event(t, &file, &table, record, &mut work, record[0] as usize + 1, inputs::next_byte(c, WAYS[0], k));
+        let (n, k) = table.as_ref().map_or((n, k), |t| (t.n, t.k));
+        let (record, mut work) = inputs::wild_memory(c, n, k);
+        let byte = inputs::next_byte(c, WAYS[0], k, inputs::newest_label(&record, &work));
+        event(t, &file, &table, record, &mut work, record[0] as usize + 1, byte);
     }
 }
 
@@ -218,9 +227,10 @@ fn wrong_sizes(t: &mut Tally, c: &mut Chance) {
     for rows in odd {
         for depth in odd {
             // The length that rows and depth ask for, wrapped round, so that an overflow would be found.
-            let asked = rows.wrapping_add(1).wrapping_mul(depth.wrapping_add(1).wrapping_mul(3).wrapping_add(1));
-            for length in [0, 1, asked.min(9000), asked.wrapping_sub(1).min(9000), asked.saturating_add(1).min(9000)] {
-                let mut work = vec![c.word(); length as usize];
+            let of_rows = rows.wrapping_add(1).wrapping_mul(depth.wrapping_add(1).wrapping_mul(3).wrapping_add(1));
+            let asked = of_rows.wrapping_add(depth);
+            for length in [0, 1, of_rows, asked, asked.wrapping_sub(1), asked.saturating_add(1)] {
+                let mut work = vec![c.word(); length.min(9000) as usize];
                 start(t, &file, &table, rows, depth, &work);
                 let fits = rows.min(70) as usize + 1;
                 for room in [fits, 0, fits - 1, fits + 5] {
@@ -240,17 +250,123 @@ fn out_of_order(t: &mut Tally, c: &mut Chance) {
         let file = inputs::random_table(c, n, k);
         let table = rules::read(&file);
         t.tables += 1;
-        let (mut record, mut work) = inputs::wild_memory(c, n);
+        let (mut record, mut work) = inputs::wild_memory(c, n, k);
+        let byte = inputs::next_byte(c, WAYS[0], k, inputs::newest_label(&record, &work));
         for _ in 0..c.pick(&[1, 1, 2, 3]) {
             if record[2] <= record[1] && record[3] <= record[0] && record[4] < u64::MAX {
-                inputs::breach(c, n, &mut record, &mut work);
+                inputs::breach(c, n, k, &mut record, &mut work);
             }
         }
-        event(t, &file, &table, record, &mut work, record[0] as usize + 1, inputs::next_byte(c, WAYS[0], k));
+        event(t, &file, &table, record, &mut work, record[0] as usize + 1, byte);
     }
 }
 
-/// Several things wrong in one call: the lowest number has to be given.
+/// The words of the levels, each damaged in turn: refused 7, with that word's place. Then the last level's word is damaged too, then the
+/// first's, then a row's: the first word at fault is named.
+fn level_words(t: &mut Tally, c: &mut Chance) {
+    for _ in 0..300 {
+        let (n, k) = (c.between(1, 6) as usize, c.pick(&[1, 2, 5, 32]));
+        let file = inputs::random_table(c, n, k);
+        let table = rules::read(&file);
+        t.tables += 1;
+        let (record, work) = inputs::wild_memory(c, n, k);
+        let [rows, allowed, depth, ..] = record;
+        let byte = inputs::next_byte(c, WAYS[0], k, inputs::newest_label(&record, &work));
+        let first = ((rows + 1) * (3 * allowed + 4)) as usize;
+        for at in first..first + allowed as usize {
+            let is_open = ((at - first) as u64) < depth;
+            let wrong = c.pick(&if is_open { [0, k as u64 + 1, 1 << 32] } else { [1, k as u64, 1 << 32] });
+            let mut damaged = work.clone();
+            for (damage, word, place) in [(at, wrong, at), (work.len() - 1, u64::MAX, at), (first, u64::MAX, first), (0, 1, 0)] {
+                damaged[damage] = word;
+                let after = event(t, &file, &table, record, &mut damaged, rows as usize + 1, byte);
+                t.same("a damaged word of a level", "its place", &(after.said, after.place), &(Err(7), place as u64));
+            }
+        }
+    }
+}
+
+/// A whole stream that closes with labels, in which no node has the label of the node that it is in. It has at most 60 positions.
+fn labelled_stream(c: &mut Chance, k: u64) -> Vec<u8> {
+    let mut stream = vec![];
+    let mut open: Vec<u8> = vec![];
+    for _ in 0..c.between(2, 60) {
+        let label = c.below(k) as u8;
+        match c.below(3) {
+            0 if open.last() != Some(&label) && open.len() < 39 => {
+                open.push(label);
+                stream.push(label);
+            }
+            1 => stream.push(32 + label),
+            _ => stream.extend(open.pop().map(|label| 66 + label)),
+        }
+    }
+    stream.extend(open.iter().rev().map(|label| 66 + label));
+    stream.push(65);
+    stream
+}
+
+/// The first event that is refused, from 1, and its number, with 64 rows and depth 40.
+fn first_refusal(t: &mut Tally, file: &[u8], table: &Result<Table, u64>, bytes: &[u8]) -> Option<(usize, u64)> {
+    let (first, mut work) = start(t, file, table, 64, 40, &[OLD; 8100]);
+    let mut record = first.record;
+    for (i, &byte) in bytes.iter().enumerate() {
+        let after = event(t, file, table, record, &mut work, 65, byte);
+        if let Err(number) = after.said {
+            return Some((i + 1, number));
+        }
+        record = after.record;
+    }
+    None
+}
+
+/// Where an open or a close that is lost shows in such a stream, counted without it: a lost open at the close that was its own, a lost
+/// close at the close of the node around it. On the top level nothing is around: there a lost open's close finds nothing open, and a lost
+/// close shows at the end.
+fn loss_shows(stream: &[u8], lost: usize) -> (usize, u64) {
+    let is_open = stream[lost] < 32;
+    let depth_before = |at: usize| {
+        let opens = stream[..at].iter().filter(|&&b| b < 32).count();
+        opens - stream[..at].iter().filter(|&&b| b > 65).count()
+    };
+    // The depth around the node that lost a byte, and the depth that its close, or the close around it, leaves.
+    let around = depth_before(lost) - !is_open as usize;
+    let left = if is_open { Some(around) } else { around.checked_sub(1) };
+    let shows = (lost + 1..stream.len()).find(|&at| stream[at] == 65 || (stream[at] > 65 && Some(depth_before(at) - 1) == left));
+    let number = match (is_open, around) {
+        (true, 0) => 11,
+        (false, 0) => 13,
+        _ => 16,
+    };
+    (shows.unwrap(), number)
+}
+
+/// Streams with an open or a close lost: with labelled closes the loss shows where it has to, with byte 64 for each close not before.
+fn lost_bytes(t: &mut Tally, c: &mut Chance) {
+    let mut earlier = 0;
+    for _ in 0..40 {
+        let (n, k) = (c.between(1, 6) as usize, c.between(2, 4));
+        let file = inputs::random_table(c, n, k as usize);
+        let table = rules::read(&file);
+        t.tables += 1;
+        let stream = labelled_stream(c, k);
+        let refused = first_refusal(t, &file, &table, &stream);
+        t.same("a whole stream", "its making", &refused, &None);
+        for lost in (0..stream.len()).filter(|&at| stream[at] < 32 || stream[at] > 65) {
+            let rest = [&stream[..lost], &stream[lost + 1..]].concat();
+            let shown = first_refusal(t, &file, &table, &rest);
+            t.same("a lost byte", "the labels", &shown, &Some(loss_shows(&stream, lost)));
+            let plain: Vec<u8> = rest.iter().map(|&byte| if byte > 65 { 64 } else { byte }).collect();
+            let late = first_refusal(t, &file, &table, &plain);
+            let [shown, late] = [shown, late].map(|refused| refused.map(|(event, _)| event));
+            t.same("a lost byte without labels", "the labels", &(shown <= late), &true);
+            earlier += (shown < late) as u64;
+        }
+    }
+    t.same("a lost byte that labels show earlier", "having one", &(earlier > 0), &true);
+}
+
+/// Several things wrong in one call: the number that is judged first has to be given.
 fn several_wrong(t: &mut Tally, c: &mut Chance) {
     for _ in 0..6000 {
         let n = c.between(1, 6) as usize;
@@ -260,9 +376,10 @@ fn several_wrong(t: &mut Tally, c: &mut Chance) {
         }
         let table = rules::read(&file);
         t.tables += 1;
-        let (mut record, mut work) = inputs::wild_memory(c, n);
+        let (mut record, mut work) = inputs::wild_memory(c, n, 2);
+        let newest = inputs::newest_label(&record, &work);
         if c.one_in(3) {
-            inputs::breach(c, n, &mut record, &mut work);
+            inputs::breach(c, n, 2, &mut record, &mut work);
         }
         if c.one_in(4) {
             work.fill(0);
@@ -280,7 +397,11 @@ fn several_wrong(t: &mut Tally, c: &mut Chance) {
         if c.one_in(4) {
             record[4] = c.pick(&[2_147_483_647, 2_147_483_646, 2_147_483_648]);
         }
-        let byte = if c.one_in(2) { c.below(256) as u8 } else { c.pick(&[0, 1, 2, 31, 32, 33, 34, 63, 64, 65, 66]) };
+        let byte = match c.below(4) {
+            0 | 1 => c.below(256) as u8,
+            2 => c.pick(&[0, 1, 2, 31, 32, 33, 34, 63, 64, 65, 66, 67, 68, 97, 98]),
+            _ => inputs::next_close(c, 1, newest),
+        };
         event(t, &file, &table, record, &mut work, room, byte);
     }
 }
@@ -295,7 +416,7 @@ fn wrong_lengths(t: &mut Tally, c: &mut Chance) {
             }
             for bad in [false, true] {
                 let file = if bad { vec![0; c.below(40) as usize] } else { good.clone() };
-                let old = [OLD; 14];
+                let old = [OLD; 15];
                 for is_start in [true, false] {
                     let mut work = Lent::new(&old, OLD);
                     let mut record = Lent::new(&vec![9; records], OLD);
@@ -328,13 +449,13 @@ fn last_positions(t: &mut Tally, c: &mut Chance) {
         let table = rules::read(&file);
         t.tables += 1;
         let mut before = c.below(12);
-        let (mut record, mut work) = run(t, &file, &table, inputs::sizes(c), |_| {
+        let (mut record, mut work) = run(t, &file, &table, inputs::sizes(c), |_, _| {
             before = before.checked_sub(1)?;
-            Some(c.pick(&[0, 1, 32, 33, 64]))
+            Some(c.pick(&[0, 1, 32, 33, 64, 66, 67]))
         });
         record[4] = 2_147_483_647 - c.below(4);
         for _ in 0..8 {
-            let byte = c.pick(&[0, 1, 32, 33, 64, 65, 2, 66]);
+            let byte = c.pick(&[0, 1, 32, 33, 64, 65, 2, 66, 67, 98]);
             record = event(t, &file, &table, record, &mut work, 65, byte).record;
         }
     }
@@ -350,17 +471,19 @@ fn main() -> ExitCode {
     damaged_tables(&mut t, &mut c);
     wrong_sizes(&mut t, &mut c);
     out_of_order(&mut t, &mut c);
+    level_words(&mut t, &mut c);
+    lost_bytes(&mut t, &mut c);
     several_wrong(&mut t, &mut c);
     wrong_lengths(&mut t, &mut c);
     last_positions(&mut t, &mut c);
-    let missed: Vec<usize> = (1..=16).filter(|&i| t.refused[i] == 0).collect();
+    let missed: Vec<usize> = (1..=17).filter(|&i| t.refused[i] == 0).collect();
     println!("compared: {} tables ({examples} of examples/), {} starts, {} events", t.tables, t.starts, t.events);
     let [own, later, end] = t.reports;
     println!("reports: {}; {own} at the position's own event, {later} later, {end} at the end", own + later + end);
-    let numbers: Vec<String> = (1..=15).map(|i| format!("{i}: {}", t.refused[i])).collect();
-    println!("refusals: {}, 100: {}", numbers.join(", "), t.refused[16]);
+    let numbers: Vec<String> = (1..=16).map(|i| format!("{i}: {}", t.refused[i])).collect();
+    println!("refusals: {}, 100: {}", numbers.join(", "), t.refused[17]);
     if !missed.is_empty() {
-        println!("refusals never seen: {missed:?} (16 stands for 100)");
+        println!("refusals never seen: {missed:?} (17 stands for 100)");
     }
     println!("{} differed", t.differed);
     if t.differed == 0 && missed.is_empty() {

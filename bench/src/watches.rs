@@ -29,7 +29,7 @@ impl<'a> Library<'a> {
         let mut library = Library {
             file: &case.file,
             record: [0; 6],
-            work: vec![0; (case.rows + 1) * (3 * case.depth + 4)],
+            work: vec![0; (case.rows + 1) * (3 * case.depth + 4) + case.depth],
             reports: vec![0; case.rows + 1],
         };
         let (rows, depth) = (case.rows as u64, case.depth as u64);

@@ -90,7 +90,9 @@ impl Record {
 pub enum Event {
     Open(u64),
     Point(u64),
+    // A close that does not say what it closes, and one that does.
     Close,
+    CloseOf(u64),
     End,
     Unknown,
 }
@@ -103,11 +105,12 @@ pub fn event_of(byte: u8) -> Event
         32..=63 => Event::Point((byte - 32) as u64),
         64 => Event::Close,
         65 => Event::End,
+        66..=97 => Event::CloseOf((byte - 66) as u64),
         _ => Event::Unknown,
     }
 }
 
-// Why a call is refused: 1 to 15 of 01, in order; the first five are the table's.
+// Why a call is refused, in the order of checking; the first five are the table's.
 pub enum Refusal {
     Table(table::Refusal),
     // Rows or depth allowed out of range, work length wrong, or reports shorter than rows + 1.
@@ -122,6 +125,8 @@ pub enum Refusal {
     Label,
     // A close with nothing open.
     NothingOpen,
+    // A close that names another label than the one that opened the level.
+    ClosingLabel,
     // An open at the depth allowed.
     TooDeep,
     // An end with a level open.
@@ -133,7 +138,7 @@ pub enum Refusal {
 }
 
 impl Refusal {
-    // 01's number.
+    // Its number, 01's or that of a later request. The order of checking is another one.
     pub fn number(self) -> u64
         ensures { λ r. ⌜ r ≡ refusalNumber self ⌝ }
     {
@@ -145,6 +150,7 @@ impl Refusal {
             Refusal::Unknown => 9,
             Refusal::Label => 10,
             Refusal::NothingOpen => 11,
+            Refusal::ClosingLabel => 16,
             Refusal::TooDeep => 12,
             Refusal::LevelOpen => 13,
             Refusal::Positions => 14,

@@ -10,7 +10,7 @@ use Rattle.order.specs.Order.{firstFrom, firstFault}
 use Rattle.answers.specs.declared.Record.{Record}
 use Rattle.answers.specs.declared.Answer.{Answer}
 use Rattle.answers.specs.declared.Event.{Event}
-use Rattle.answers.specs.declared.Event.the-variants.{Open, Point, Close, End, Unknown}
+use Rattle.answers.specs.declared.Event.the-variants.{Open, Point, Close, CloseOf, End, Unknown}
 use Rattle.answers.specs.Bytes.{meaningOf}
 use Rattle.answers.specs.Answers.{outcomeNumber}
 use Rattle.engine.specs.Calls.{taking, eventAnswer, eventWork, eventReports, startAnswer, startWork}
@@ -87,6 +87,7 @@ positions-on : (t : Table) (r : Record) (work : List ℕ) (e : Event) → taking
 positions-on t r work (Open a) = refl
 positions-on t r work (Point a) = refl
 positions-on t r work Close = omega arith
+positions-on t r work (CloseOf a) = omega arith
 positions-on t r work End = omega arith
 positions-on t r work Unknown = omega arith
 

@@ -1,4 +1,4 @@
--- The twelve cases of 01 ("Two tables, worked through"): what a case claims, and the list of them. Definitions only. A claim
+-- The twelve cases of 01 ("Two tables, worked through", case 12 as 02's K2 has it): what a case claims, and the list of them. Definitions only. A claim
 -- about bytes is made of the start call and the event calls as a caller sees them.
 use mathlib.Core.List.{List, [], _∷_, map}
 use mathlib.Core.Path.{_≡_}
@@ -98,7 +98,7 @@ cases =
           ∷ Tells tableW 2 2 (64 ∷ []) (refused 11 ∷ [])
           ∷ Tells tableW 2 2 (0 ∷ 65 ∷ []) (reports [] ∷ refused 13 ∷ [])
           ∷ Tells tableW 2 2 (2 ∷ []) (refused 10 ∷ [])
-          ∷ Tells tableW 2 2 (66 ∷ []) (refused 9 ∷ [])
+          ∷ Tells tableW 2 2 (66 ∷ []) (refused 11 ∷ [])
           ∷ [];
     }
     ∷ []

@@ -1,4 +1,4 @@
--- An event call that is refused by each number, 1 to 15, and one that is taken. Definitions only.
+-- An event call that is refused by each number, in the order of checking, and one that is taken. Definitions only.
 use mathlib.Core.List.{List, [], _∷_, _++_}
 use Prim.Native.Nat.{ℕ}
 use lib.ListN.{take, replicate}
@@ -17,7 +17,7 @@ withPositions p r =
 abbrev pub withRecord : Record → Watching → Watching
 withRecord r s = record { stream = s .stream; now = r; work = s .work; reports = s .reports }
 
--- For a table w like W, of 76 bytes, with one row: the number answered to a call, for sixteen calls.
+-- For a table w like W, of 76 bytes, with one row: the number answered to a call, for seventeen calls.
 module _ (w : List ℕ) where
   -- A watch at its start, after an open, and after its end; and one of depth 1 after an open.
   abbrev started : Watching
@@ -45,9 +45,10 @@ module _ (w : List ℕ) where
       ∷ number w started (record { byte = 0; lent = [] })
       ∷ number w (withRecord (withAlive 2 (started .now)) started) (calling 1 0)
       ∷ number w ended (calling 1 65)
-      ∷ number w started (calling 1 66)
+      ∷ number w started (calling 1 98)
       ∷ number w started (calling 1 2)
       ∷ number w started (calling 1 64)
+      ∷ number w opened (calling 1 67)
       ∷ number w shallow (calling 1 0)
       ∷ number w opened (calling 1 65)
       ∷ number w (withRecord (withPositions 2147483647 (started .now)) started) (calling 1 32)

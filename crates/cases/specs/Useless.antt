@@ -6,7 +6,7 @@ use lib.ListN.{length, take}
 use Rattle.answers.specs.declared.Record.{Record}
 use Rattle.answers.specs.declared.Answer.{Answer}
 use Rattle.answers.specs.declared.Event.{Event}
-use Rattle.answers.specs.declared.Event.the-variants.{Open, Point, Close, End, Unknown}
+use Rattle.answers.specs.declared.Event.the-variants.{Open, Point, Close, CloseOf, End, Unknown}
 use Rattle.answers.specs.Bytes.{meaningOf}
 use Rattle.answers.specs.Answers.{outcomeNumber}
 use Rattle.engine.specs.Calls.{eventAfter, eventAnswer, eventWork, eventReports, startAnswer, startWork}
@@ -36,6 +36,7 @@ abbrev pub positionsIn : Event → ℕ
 positionsIn (Open a) = 1
 positionsIn (Point a) = 1
 positionsIn Close = 0
+positionsIn (CloseOf a) = 0
 positionsIn End = 0
 positionsIn Unknown = 0
 

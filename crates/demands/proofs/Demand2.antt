@@ -14,7 +14,7 @@ use Rattle.meaning.specs.Streams.{Prefix, Whole, Selects}
 use Rattle.meaning.specs.Hedges.{evaluate}
 use Rattle.meaning.proofs.Hedges.{selects-is, whole-is}
 use Rattle.meaning.proofs.Earliest as earliest
-use Rattle.places.specs.Places.{rowLength}
+use Rattle.places.specs.Places.{rowLength, rowsPart}
 use Rattle.places.specs.Memory.{Held}
 use Rattle.places.proofs.Good.{helds-length}
 use Rattle.reports.specs.Reports.{selectedWord, failedWord}
@@ -79,7 +79,7 @@ module _ (f : List ℕ) (rows depth : ℕ) (s : Watching) (follow : Follows f ro
   alive-count : (alive : List ℕ) → AliveAre t (s .stream) alive → s .now .alive ≡ length alive
   alive-count alive a =
       let held : List Held = memoryOf (s .now) (s .work) .alive in
-      sym (helds-length (rowLength (s .now .allowed)) (s .now .depth) (s .now .alive) (drop (rowLength (s .now .allowed)) (s .work)))
+      sym (helds-length (rowLength (s .now .allowed)) (s .now .depth) (s .now .alive) (drop (rowLength (s .now .allowed)) (rowsPart (s .now .rows) (s .now .allowed) (s .work))))
       ∙ sym (length-map held (λ (h : Held). h .position))
       ∙ ap length (alive-same t (s .stream) (positionsOf held) alive (rows-alive f rows depth s follow) a)
 

@@ -8,7 +8,6 @@ use Rattle.meaning.specs.Table.{Table, tableOf}
 use Rattle.meaning.specs.Streams as stream
 use Rattle.places.specs.Memory.{Held, Memory}
 use Rattle.answers.specs.declared.Record.{Record}
-use Rattle.answers.specs.declared.Event.{Event}
 use Rattle.answers.specs.declared.Event.the-variants.{Unknown}
 use Rattle.answers.specs.Bytes.{meaningOf}
 use Rattle.answers.specs.Answers.{outcomeNumber}
@@ -38,7 +37,7 @@ goes-as t {before} {before′} {after} {after′} {words} {words′} e f g h =
 module _ (f : List ℕ) (rows depth : ℕ) (s : Watching) (follow : Follows f rows depth s) (c : Call) where
   -- A taken call is one taken event.
   pub goes-on : judgedOf f s c ≡ Fine → Goes (tableOf f) (s .stream) (called f s c .stream) (given f s c)
-  goes-on fine = go (meaningOf (c .byte)) refl (kind (meaningOf (c .byte)))
+  goes-on fine = go (kind (meaningOf (c .byte)))
     where
       free : Early f rows depth s follow c
       free = early f rows depth s follow c fine
@@ -46,16 +45,16 @@ module _ (f : List ℕ) (rows depth : ℕ) (s : Watching) (follow : Follows f ro
       before : s .stream ≡ going (s .stream .events)
       before = ap (λ (b : Bool). record { events = s .stream .events; ended = b }) (going-on f rows depth s follow c free)
 
-      go : (x : Event) → meaningOf (c .byte) ≡ x → Kind x → Goes (tableOf f) (s .stream) (called f s c .stream) (given f s c)
-      go x is (Kind.event e) =
-          goes-as (tableOf f) before (ap (λ (y : Watching). y .stream) (called-event f rows depth s follow c fine e is))
-          (given-is f s c fine ∙ ap (λ (a : After). a .reports) (after-event f rows depth s follow c free e is))
-          (goes-event (tableOf f) (follow .formed) e (follow .reads) (can-read f rows depth s follow c free e is .reads-on))
-      go x is Kind.end =
+      go : Kind (meaningOf (c .byte)) → Goes (tableOf f) (s .stream) (called f s c .stream) (given f s c)
+      go (Kind.event e means) =
+          goes-as (tableOf f) before (ap (λ (y : Watching). y .stream) (called-event f rows depth s follow c fine e means))
+          (given-is f s c fine ∙ ap (λ (a : After). a .reports) (after-event f rows depth s follow c free e means))
+          (goes-event (tableOf f) (follow .formed) e (follow .reads) (can-read f rows depth s follow c free e means .reads-on))
+      go (Kind.end is) =
           goes-as (tableOf f) before (ap (λ (y : Watching). y .stream) (called-end f rows depth s follow c fine is))
           (given-is f s c fine ∙ ap (λ (a : After). a .reports) (after-end f rows depth s follow c free is))
           (goes-end (tableOf f) (follow .formed) (subst (λ (d : ℕ). stream.Prefix (tableOf f) (s .stream .events) d) (all-closed f rows depth s follow c free is) (follow .reads)))
-      go x is Kind.nothing = absurd (passed-as f rows depth s follow c free Unknown is)
+      go (Kind.nothing is) = absurd (passed-as f rows depth s follow c free Unknown is)
 
 ---------------------------------------------------------------- all reports so far
 

@@ -17,10 +17,10 @@ use Rattle.order.specs.Order.{wordRight, firstFrom, firstFault}
 use Rattle.answers.specs.declared.Record.{Record}
 use Rattle.answers.specs.declared.Outcome.the-variants as outcome
 use Rattle.answers.specs.declared.Refusal.the-variants as why
-use Rattle.answers.specs.Answers.{outcomeNumber}
+use Rattle.answers.specs.Answers.{outcomeRank}
 use Rattle.answers.specs.Bytes.{meaningOf}
 use Rattle.judge.specs.declared.Judged.the-variants.{Fine, Refused}
-use Rattle.judge.specs.Judging.{judgedNumber, recordRight, shapeOf, faultOf, isFault, faultAt}
+use Rattle.judge.specs.Judging.{judgedRank, recordRight, shapeOf, faultOf, isFault, faultAt}
 use Rattle.engine.specs.Calls.{lines, answerOf, eventJudged, eventAfter, eventAnswer}
 use Rattle.engine.proofs.Numbers.{event-exactly}
 use Rattle.demands.specs.Demands.{FirstWrong, FaultAt}
@@ -56,11 +56,11 @@ first-wrong s words i e =
     let h = found-first (wordRight s words) (length words) 0 i e in
     record { inside = omega (arith, h .to); wrong = h .fails; right-before = λ j l. h .passed j (omega arith) l }
 
-fault-at : (r : Record) (n : ℕ) (work : List ℕ) (i : ℕ) → faultOf r n work ≡ At i → FaultAt r n work i
-fault-at r n work i e = go (recordRight r) refl e
+fault-at : (r : Record) (n k : ℕ) (work : List ℕ) (i : ℕ) → faultOf r n k work ≡ At i → FaultAt r n k work i
+fault-at r n k work i e = go (recordRight r) refl e
   where
-    go : (b : Bool) → recordRight r ≡ b → cond b (firstFault (shapeOf r n) work) (At (length work)) ≡ At i → FaultAt r n work i
-    go true h q = inr (h, first-wrong (shapeOf r n) work i q)
+    go : (b : Bool) → recordRight r ≡ b → cond b (firstFault (shapeOf r n k) work) (At (length work)) ≡ At i → FaultAt r n k work i
+    go true h q = inr (h, first-wrong (shapeOf r n k) work i q)
     go false h q = inl (h, cc)
 
 -- A fault that is there is at its place.
@@ -70,11 +70,11 @@ at-place (At i) e = refl
 
 pub place-is :
     (f : List ℕ) (r : Record) (work reports : List ℕ) (byte i : ℕ) →
-    eventAnswer f r work reports byte .outcome ≡ outcome.Refused (why.Order i) → FaultAt r (tableOf f .states) work i
+    eventAnswer f r work reports byte .outcome ≡ outcome.Refused (why.Order i) → FaultAt r (tableOf f .states) (tableOf f .labels) work i
 place-is f r work reports byte i e =
-    let first = event-exactly f r work reports byte 6 (omega arith) .0 (ap outcomeNumber e) in
-    let p : Place = faultOf r (tableOf f .states) work in
-    let judged : eventJudged f r work reports byte ≡ Refused (why.Order (faultAt p)) = first-gives judgedNumber Fine (lines f r work (length reports) (meaningOf byte)) 6 first in
+    let first = event-exactly f r work reports byte 6 (omega arith) .0 (ap outcomeRank e) in
+    let p : Place = faultOf r (tableOf f .states) (tableOf f .labels) work in
+    let judged : eventJudged f r work reports byte ≡ Refused (why.Order (faultAt p)) = first-gives judgedRank Fine (lines f r work (length reports) (meaningOf byte)) 6 first in
     let told : outcome.Refused (why.Order (faultAt p)) ≡ outcome.Refused (why.Order i) = sym (ap (λ j. answerOf j r (eventAfter f r work byte) .outcome) judged) ∙ e in
     let same : faultAt p ≡ i = cc in
-    fault-at r (tableOf f .states) work i (at-place p (first .applies) ∙ ap At same)
+    fault-at r (tableOf f .states) (tableOf f .labels) work i (at-place p (first .applies) ∙ ap At same)

@@ -11,12 +11,12 @@ use Rattle.meaning.specs.Table.{Table, WellFormed, tableOf}
 use Rattle.meaning.specs.Masks.{accsOf}
 use Rattle.meaning.specs.Refusals.{firstOf, appliesAt}
 use Rattle.meaning.specs.Streams as stream
-use Rattle.meaning.specs.Streams.{positions, Reads, Prefix}
+use Rattle.meaning.specs.Streams.{positions, openedBy, openAfter, Reads, Prefix}
 use Rattle.meaning.proofs.Refusals.{none-taken}
 use Rattle.meaning.proofs.Streams.{reads-join}
 use Rattle.bodies.specs.Sound.{labelsIn}
-use Rattle.places.specs.Places.{workLength}
-use Rattle.places.specs.Memory.{Memory, workWords}
+use Rattle.places.specs.Places.{workLength, labelsPart}
+use Rattle.places.specs.Memory.{Memory, openIn, workWords}
 use Rattle.rows.specs.Steps.{depthAfter}
 use Rattle.reports.specs.Reports.{reportsOf, endReports}
 use Rattle.stepping.specs.Stepping.{stepMemory, leftMemory}
@@ -31,16 +31,17 @@ use Rattle.judge.specs.declared.Judged.{Judged}
 use Rattle.judge.specs.declared.Judged.the-variants.{Fine, Refused}
 use Rattle.judge.specs.Judging.{judgedNumber, tableLines, sizesRight, startLines}
 use Rattle.judge.proofs.Passed.{EventPassed, passed, event-passed, start-passed}
-use Rattle.engine.specs.Calls.{After, stepRecord, memoryOf, taking, answerOf, unless, eventAnswer, startJudged, startAfter}
+use Rattle.engine.specs.Calls.{After, stepRecord, memoryOf, labelsOf, taking, answerOf, unless, eventAnswer, startJudged, startAfter}
 use Rattle.engine.proofs.Numbers.{event-taken, start-taken}
 use Rattle.following.specs.Following.{memoryAfter}
-use Rattle.following.proofs.Ordered.{work-length, memory-back}
+use Rattle.following.proofs.Ordered.{work-length, memory-back, labels-back}
+use Rattle.following.proofs.Labels.{open-append, open-levels}
 use Rattle.following.proofs.Stays.{positions-append}
 use Rattle.following.proofs.Follows.{follows}
 use Rattle.following.proofs.Held.{memory-good}
 use Rattle.demands.specs.Watching.{Call, Stream, Watching, longer, begun, Started, called, calledAll, watching}
 use Rattle.demands.proofs.Lines.{front-applies}
-use Rattle.demands.proofs.Reading.{byteOf, Kind, kind, taking-event, longer-event, Readable, readable, record-on}
+use Rattle.demands.proofs.Reading.{Means, Kind, kind, taking-event, longer-event, Readable, readable, record-on}
 use Rattle.demands.proofs.Taking.{early-judged, taken-answer, having, judgedOf, afterOf, firstLines, refused-call, taken-call}
 
 -- The record and the memory of a watch that has taken w, with d levels open, and after its end.
@@ -51,7 +52,7 @@ recordAt t rows depth d w true =
     record { rows = rows; allowed = depth; depth = 0; alive = 0; positions = positions w; finished = true }
 
 abbrev pub workAt : Table → ℕ → ℕ → List stream.Event → Bool → List ℕ
-workAt t rows depth w false = workWords rows depth (memoryAfter t w)
+workAt t rows depth w false = workWords rows depth (memoryAfter t w) (openAfter [] w)
 workAt t rows depth w true = replicate (workLength rows depth) 0
 
 pub record Follows (f : List ℕ) (rows depth : ℕ) (s : Watching) : Type 0 where
@@ -99,14 +100,30 @@ module _ (f : List ℕ) (rows depth : ℕ) (s : Watching) (follow : Follows f ro
   abbrev w : List stream.Event
   w = s .stream .events
 
-  -- While the end is not taken, memory stands for the rows of the events taken.
-  pub memory-now : s .stream .ended ≡ false → memoryOf (s .now) (s .work) ≡ memoryAfter t w
-  memory-now e =
-      let now : s .now ≡ recordAt t rows depth (follow .levels) w false = follow .now-is ∙ ap (recordAt t rows depth (follow .levels) w) e in
-      let work : s .work ≡ workAt t rows depth w false = follow .work-is ∙ ap (workAt t rows depth w) e in
-      ap (λ (r : Record). memoryOf r (s .work)) now
-      ∙ ap (memoryOf (recordAt t rows depth (follow .levels) w false)) work
-      ∙ memory-back (t .states) rows depth (follow .levels) (memoryAfter t w) (follow .few-levels) (follow .deep) (follow .room) (memory-good t (follow .formed) (follow .reads))
+  -- As many labels are open as levels are.
+  pub levels-open : length (openAfter [] w) ≡ follow .levels
+  levels-open = open-levels (follow .reads) [] refl
+
+  -- While the end is not taken, memory stands for the rows of the events taken, and for the labels of what they leave open.
+  module _ (e : s .stream .ended ≡ false) where
+    pub now-going : s .now ≡ recordAt t rows depth (follow .levels) w false
+    now-going = follow .now-is ∙ ap (recordAt t rows depth (follow .levels) w) e
+
+    pub work-going : s .work ≡ workAt t rows depth w false
+    work-going = follow .work-is ∙ ap (workAt t rows depth w) e
+
+    pub memory-now : memoryOf (s .now) (s .work) ≡ memoryAfter t w
+    memory-now =
+        ap (λ (r : Record). memoryOf r (s .work)) now-going
+        ∙ ap (memoryOf (recordAt t rows depth (follow .levels) w false)) work-going
+        ∙ memory-back (t .states) rows depth (follow .levels) (memoryAfter t w) (follow .few-levels) (follow .deep) (follow .room) (memory-good t (follow .formed) (follow .reads)) (openAfter [] w)
+
+    pub labels-now : labelsOf (s .now) (s .work) ≡ openAfter [] w
+    labels-now =
+        ap (λ (r : Record). labelsOf r (s .work)) now-going
+        ∙ ap (labelsOf (recordAt t rows depth (follow .levels) w false)) work-going
+        ∙ ap (openIn (labelsPart rows depth (workAt t rows depth w false))) (sym levels-open)
+        ∙ labels-back (t .states) rows depth (follow .levels) (memoryAfter t w) (follow .few-levels) (follow .deep) (follow .room) (memory-good t (follow .formed) (follow .reads)) (openAfter [] w)
 
   -- The numbers of the record that are the same before the end and after it.
   pub numbers-now : (s .now .rows ≡ rows) × (s .now .allowed ≡ depth) × (s .now .positions ≡ positions (s .stream .events)) × (s .now .finished ≡ s .stream .ended)
@@ -131,7 +148,7 @@ module _ (f : List ℕ) (rows depth : ℕ) (s : Watching) (follow : Follows f ro
       go : (b : Bool) → length (workAt (tableOf f) rows depth (s .stream .events) b) ≡ workLength rows depth
       go false =
           work-length (tableOf f .states) rows depth (follow .levels) (memoryAfter (tableOf f) (s .stream .events)) (follow .few-levels) (follow .deep) (follow .room)
-          (memory-good (tableOf f) (follow .formed) (follow .reads))
+          (memory-good (tableOf f) (follow .formed) (follow .reads)) (openAfter [] (s .stream .events)) (omega (arith, levels-open, follow .deep))
       go true = length-replicate (workLength rows depth) 0
 
   -- The stream with one event more.
@@ -146,7 +163,7 @@ module _ (f : List ℕ) (rows depth : ℕ) (s : Watching) (follow : Follows f ro
   endReported = endReports t (memoryAfter t w .alive)
 
   module _ (c : Call) where
-    -- None of 1 to 14 applies.
+    -- No line before the last applies.
     abbrev pub Early : Type 0
     Early = firstOf (firstLines f s c) Fine ≡ Fine
 
@@ -161,13 +178,13 @@ module _ (f : List ℕ) (rows depth : ℕ) (s : Watching) (follow : Follows f ro
           go : (b : Bool) → s .now ≡ recordAt t rows depth (follow .levels) w b → b ≡ false
           go false e = refl
           go true e =
-              absurd (true≢false (sym (ap (λ (r : Record). r .finished) e) ∙ passed f (s .work) (s .now) (length (c .lent)) (meaningOf (c .byte)) free .going-on))
+              absurd (true≢false (sym (ap (λ (r : Record). r .finished) e) ∙ passed f (s .work) (s .now) (length (c .lent)) (meaningOf (c .byte)) free .called .going-on))
 
       abbrev before : Record
       before = recordAt t rows depth (follow .levels) w false
 
       now-before : s .now ≡ before
-      now-before = follow .now-is ∙ ap (recordAt t rows depth (follow .levels) w) going-on
+      now-before = now-going going-on
 
       pub passed-as : (e : Event) → meaningOf (c .byte) ≡ e → EventPassed (labelsIn f) before e
       passed-as e is =
@@ -176,16 +193,16 @@ module _ (f : List ℕ) (rows depth : ℕ) (s : Watching) (follow : Follows f ro
           (event-passed f (s .work) (s .now) (length (c .lent)) (meaningOf (c .byte)) free))
 
       -- An open, point or close.
-      module _ (e : stream.Event) (is : meaningOf (c .byte) ≡ byteOf e) where
+      module _ (e : stream.Event) (means : Means (meaningOf (c .byte)) e) where
         pub can-read : Readable (t .labels) before e
-        can-read = readable (t .labels) before e (passed-as (byteOf e) is) (follow .deep) (follow .numbered)
+        can-read = readable (t .labels) before means (passed-as (meaningOf (c .byte)) refl) (follow .deep) (follow .numbered)
 
-        -- A step from rows that are held.
-        abbrev from : Record → Memory → After
-        from r m =
+        -- A step from rows that are held and labels that are open.
+        abbrev from : Record → Memory → List ℕ → After
+        from r m o =
             record {
               next = withAlive (length (leftMemory (stepMemory t (accsOf t) e (r .positions) m) .alive)) (stepRecord e r);
-              work = workWords (r .rows) (r .allowed) (leftMemory (stepMemory t (accsOf t) e (r .positions) m));
+              work = workWords (r .rows) (r .allowed) (leftMemory (stepMemory t (accsOf t) e (r .positions) m)) (openedBy o e);
               reports = reportsOf (stepMemory t (accsOf t) e (r .positions) m .alive);
             }
 
@@ -195,17 +212,19 @@ module _ (f : List ℕ) (rows depth : ℕ) (s : Watching) (follow : Follows f ro
           reports = reported e;
         }
         after-event =
-            ap (taking t (s .now) (s .work)) is
-            ∙ taking-event t (s .now) (s .work) e
-            ∙ ap (from (s .now)) (memory-now going-on)
-            ∙ ap (λ (r : Record). from r (memoryAfter t w)) now-before
-            ∙ ap (λ (m : Memory). record { next = withAlive (length (m .alive)) (stepRecord e before); work = workWords rows depth m; reports = reported e })
+            taking-event t (s .now) (s .work) means
+            ∙ ap (λ (m : Memory). from (s .now) m (labelsOf (s .now) (s .work))) (memory-now going-on)
+            ∙ ap (from (s .now) (memoryAfter t w)) (labels-now going-on)
+            ∙ ap (λ (r : Record). from r (memoryAfter t w) (openAfter [] w)) now-before
+            ∙ ap (λ (m : Memory). record { next = withAlive (length (m .alive)) (stepRecord e before); work = workWords rows depth m (openedBy (openAfter [] w) e); reports = reported e })
             (follows t (follow .formed) e (follow .reads) (can-read .reads-on))
-            ∙ ap (λ (r : Record). record { next = withAlive (length (memoryAfter t (next e) .alive)) r; work = workWords rows depth (memoryAfter t (next e)); reports = reported e })
+            ∙ ap (λ (o : List ℕ). record { next = withAlive (length (memoryAfter t (next e) .alive)) (stepRecord e before); work = workWords rows depth (memoryAfter t (next e)) o; reports = reported e })
+            (sym (open-append [] w (e ∷ [])))
+            ∙ ap (λ (r : Record). record { next = withAlive (length (memoryAfter t (next e) .alive)) r; work = workAt t rows depth (next e) false; reports = reported e })
             (record-on rows depth (follow .levels) (length (memoryAfter t w .alive)) (positions w) e)
             ∙ ap (λ (p : ℕ). record {
               next = record { rows = rows; allowed = depth; depth = depthAfter e (follow .levels); alive = length (memoryAfter t (next e) .alive); positions = p; finished = false };
-              work = workWords rows depth (memoryAfter t (next e));
+              work = workAt t rows depth (next e) false;
               reports = reported e;
             })
             (sym (positions-append w (e ∷ [])))
@@ -224,7 +243,7 @@ module _ (f : List ℕ) (rows depth : ℕ) (s : Watching) (follow : Follows f ro
 
     -- The call is taken: what the caller then has.
     module _ (fine : judgedOf f s c ≡ Fine) where
-      module _ (e : stream.Event) (is : meaningOf (c .byte) ≡ byteOf e) where
+      module _ (e : stream.Event) (means : Means (meaningOf (c .byte)) e) where
         pub called-event : called f s c ≡ record {
           stream = record { events = next e; ended = false };
           now = recordAt t rows depth (depthAfter e (follow .levels)) (next e) false;
@@ -233,17 +252,16 @@ module _ (f : List ℕ) (rows depth : ℕ) (s : Watching) (follow : Follows f ro
         }
         called-event =
             taken-call f s c fine
-            ∙ ap (λ (x : Event). having s (longer (s .stream) x) (afterOf f s c)) is
-            ∙ ap (λ (x : Stream). having s x (afterOf f s c)) (longer-event (s .stream) e)
+            ∙ ap (λ (x : Stream). having s x (afterOf f s c)) (longer-event (s .stream) means)
             ∙ ap (λ (b : Bool). having s (record { events = next e; ended = b }) (afterOf f s c)) (going-on (early fine))
-            ∙ ap (having s (record { events = next e; ended = false })) (after-event (early fine) e is)
+            ∙ ap (having s (record { events = next e; ended = false })) (after-event (early fine) e means)
 
         -- 15 did not apply.
         fits : length (memoryAfter t (next e) .alive) ≤ rows
         fits =
             let taken : outcomeNumber (eventAnswer f (s .now) (s .work) (c .lent) (c .byte) .outcome) ≡ 0 = ap (λ (x : Answer). outcomeNumber (x .outcome)) (taken-answer f (s .now) (s .work) (c .lent) (c .byte) fine) in
-            let some : afterOf f s c .next .alive ≤ s .now .rows = ltb-false (s .now .rows) (afterOf f s c .next .alive) (event-taken f (s .now) (s .work) (c .lent) (c .byte) .0 taken 14) in
-            let alive : afterOf f s c .next .alive ≡ length (memoryAfter t (next e) .alive) = ap (λ (a : After). a .next .alive) (after-event (early fine) e is) in
+            let some : afterOf f s c .next .alive ≤ s .now .rows = ltb-false (s .now .rows) (afterOf f s c .next .alive) (event-taken f (s .now) (s .work) (c .lent) (c .byte) .0 taken 15) in
+            let alive : afterOf f s c .next .alive ≡ length (memoryAfter t (next e) .alive) = ap (λ (a : After). a .next .alive) (after-event (early fine) e means) in
             let all : s .now .rows ≡ rows = ap (λ (r : Record). r .rows) (now-before (early fine)) in
             omega (arith, some, alive, all)
 
@@ -256,10 +274,10 @@ module _ (f : List ℕ) (rows depth : ℕ) (s : Watching) (follow : Follows f ro
               sized = follow .sized;
               few-levels = follow .few-levels;
               levels = depthAfter e (follow .levels);
-              reads = reads-join (follow .reads) (can-read (early fine) e is .reads-on);
-              deep = can-read (early fine) e is .still-deep;
+              reads = reads-join (follow .reads) (can-read (early fine) e means .reads-on);
+              deep = can-read (early fine) e means .still-deep;
               room = fits;
-              numbered = omega (arith, can-read (early fine) e is .still-numbered, positions-append w (e ∷ []));
+              numbered = omega (arith, can-read (early fine) e means .still-numbered, positions-append w (e ∷ []));
               closed = λ b. absurd (true≢false (sym b));
               now-is = refl;
               work-is = refl;
@@ -298,13 +316,13 @@ module _ (f : List ℕ) (rows depth : ℕ) (s : Watching) (follow : Follows f ro
 pub follows-call : (f : List ℕ) (rows depth : ℕ) (s : Watching) → Follows f rows depth s → (c : Call) → Follows f rows depth (called f s c)
 follows-call f rows depth s follow c = go (judgedOf f s c) refl
   where
-    taken : judgedOf f s c ≡ Fine → (x : Event) → meaningOf (c .byte) ≡ x → Kind x → Follows f rows depth (called f s c)
-    taken fine x is (Kind.event e) = follows-event f rows depth s follow c fine e is
-    taken fine x is Kind.end = follows-end f rows depth s follow c fine is
-    taken fine x is Kind.nothing = absurd (passed-as f rows depth s follow c (early f rows depth s follow c fine) Unknown is)
+    taken : judgedOf f s c ≡ Fine → Kind (meaningOf (c .byte)) → Follows f rows depth (called f s c)
+    taken fine (Kind.event e means) = follows-event f rows depth s follow c fine e means
+    taken fine (Kind.end is) = follows-end f rows depth s follow c fine is
+    taken fine (Kind.nothing is) = absurd (passed-as f rows depth s follow c (early f rows depth s follow c fine) Unknown is)
 
     go : (j : Judged) → judgedOf f s c ≡ j → Follows f rows depth (called f s c)
-    go Fine e = taken e (meaningOf (c .byte)) refl (kind (meaningOf (c .byte)))
+    go Fine e = taken e (kind (meaningOf (c .byte)))
     go (Refused why) e = subst (Follows f rows depth) (sym (refused-call f s c why e)) follow
 
 -- After any calls.

@@ -13,27 +13,28 @@ use Rattle.meaning.specs.Table.{Table, tableOf}
 use Rattle.meaning.specs.Masks.{accsOf}
 use Rattle.meaning.specs.Refusals.{Line, firstOf}
 use Rattle.meaning.specs.Streams as stream
-use Rattle.meaning.specs.Streams.{Run, positions, Prefix}
+use Rattle.meaning.specs.Streams.{Run, positions, openAfter, Prefix}
 use Rattle.meaning.proofs.Streams.{run-depth}
-use Rattle.places.specs.Places.{rowLength}
+use Rattle.places.specs.Places.{rowLength, rowsPart}
 use Rattle.places.specs.Memory.{Held, Memory}
 use Rattle.places.proofs.Good.{helds-length}
 use Rattle.reports.specs.Reports.{reportsOf, leftOf, endReports}
 use Rattle.stepping.specs.Stepping.{stepMemory}
 use Rattle.answers.specs.declared.Record.{Record}
 use Rattle.answers.specs.declared.Event.{Event}
-use Rattle.answers.specs.declared.Event.the-variants.{Open, Point, Close, End, Unknown}
+use Rattle.answers.specs.declared.Event.the-variants.{Open, Point, Close, CloseOf, End, Unknown}
 use Rattle.answers.specs.declared.Outcome.the-variants.{Taken}
 use Rattle.answers.specs.declared.Refusal.{Refusal}
 use Rattle.answers.specs.declared.Refusal.the-variants as why
 use Rattle.answers.specs.Bytes.{meaningOf}
 use Rattle.judge.specs.declared.Judged.{Judged}
 use Rattle.judge.specs.declared.Judged.the-variants.{Fine, Refused}
-use Rattle.judge.specs.Judging.{refuses, judgedNumber, eventLines, opensTooDeep, closesNothing, endsOpen, outOfPositions}
+use Rattle.judge.specs.Judging.{refuses, judgedNumber, eventLines, newestWord, closesNothing, closesAnother, opensTooDeep, endsOpen, outOfPositions}
 use Rattle.engine.specs.Calls.{After, memoryOf, stepped, taking, rowsLines, lines, answerOf}
 use Rattle.engine.proofs.Numbers.{answer-number}
 use Rattle.following.specs.Following.{memoryAfter}
 use Rattle.demands.specs.Watching.{Call, Stream, Watching, longer, Started, begun, linesOf, outcomeOf, given, toldAll, called}
+use Rattle.demands.specs.Demands.{closesOther}
 use Rattle.demands.specs.Room.{Alike, NoWant, SameAnswers}
 use Rattle.demands.specs.Room as room
 use Rattle.demands.proofs.Lines.{Looser, looser-first}
@@ -57,6 +58,7 @@ too-deep-less : (e : Event) (d a d′ a′ : ℕ) → d ≡ d′ → a ≤ a′ 
 too-deep-less (Open x) d a d′ a′ q l h = le-leb a d (omega (arith, q, l, leb-true a′ d′ h))
 too-deep-less (Point x) d a d′ a′ q l h = h
 too-deep-less Close d a d′ a′ q l h = h
+too-deep-less (CloseOf x) d a d′ a′ q l h = h
 too-deep-less End d a d′ a′ q l h = h
 too-deep-less Unknown d a d′ a′ q l h = h
 
@@ -68,9 +70,9 @@ module _ (t : Table) (r r′ : Record) (work work′ : List ℕ) (rows-same : me
   -- The alive count is the number of rows.
   alive-same : r .alive ≡ r′ .alive
   alive-same =
-      sym (helds-length (rowLength (r .allowed)) (r .depth) (r .alive) (drop (rowLength (r .allowed)) work))
+      sym (helds-length (rowLength (r .allowed)) (r .depth) (r .alive) (drop (rowLength (r .allowed)) (rowsPart (r .rows) (r .allowed) work)))
       ∙ ap (λ (m : Memory). length (m .alive)) rows-same
-      ∙ helds-length (rowLength (r′ .allowed)) (r′ .depth) (r′ .alive) (drop (rowLength (r′ .allowed)) work′)
+      ∙ helds-length (rowLength (r′ .allowed)) (r′ .depth) (r′ .alive) (drop (rowLength (r′ .allowed)) (rowsPart (r′ .rows) (r′ .allowed) work′))
 
   abbrev Same : (List ℕ → Record → After) → Type 0
   Same after = (after work r .next .alive ≡ after work′ r′ .next .alive) × (after work r .reports ≡ after work′ r′ .reports)
@@ -87,6 +89,7 @@ module _ (t : Table) (r r′ : Record) (work work′ : List ℕ) (rows-same : me
   step-same (Open a) = event-same (stream.Open a)
   step-same (Point a) = event-same (stream.Point a)
   step-same Close = event-same stream.Close
+  step-same (CloseOf a) = event-same stream.Close
   step-same End = (refl, ap (λ (m : Memory). endReports t (m .alive)) rows-same)
   step-same Unknown = (alive-same, refl)
 
@@ -114,20 +117,32 @@ module _ (f : List ℕ) (rows depth rows′ depth′ : ℕ) (more-rows : rows �
       levels-same t (depth-now f rows depth s (beside .one))
       (subst (λ (x : Stream). Prefix t (x .events) (s′ .now .depth)) (sym (beside .same-stream)) (depth-now f rows′ depth′ s′ (beside .other)))
 
+  same-ended : s′ .stream .ended ≡ s .stream .ended
+  same-ended = ap (λ (x : Stream). x .ended) (sym (beside .same-stream))
+
   same-rows : s .stream .ended ≡ false → memoryOf (s .now) (s .work) ≡ memoryOf (s′ .now) (s′ .work)
   same-rows e =
       memory-now f rows depth s (beside .one) e
       ∙ ap (λ (x : Stream). memoryAfter t (x .events)) (beside .same-stream)
-      ∙ sym (memory-now f rows′ depth′ s′ (beside .other) (ap (λ (x : Stream). x .ended) (sym (beside .same-stream)) ∙ e))
+      ∙ sym (memory-now f rows′ depth′ s′ (beside .other) (same-ended ∙ e))
 
   abbrev event : Event
   event = meaningOf (c .byte)
+
+  -- Both have the same open, so a close names another label for both or for none.
+  same-labels :
+      s .stream .ended ≡ false →
+      closesAnother (s .now .depth) (newestWord (s .now) (s .work)) event ≡ closesAnother (s′ .now .depth) (newestWord (s′ .now) (s′ .work)) event
+  same-labels e =
+      next-handed f rows depth s (beside .one) c .labels-right e
+      ∙ ap (λ (x : Stream). closesOther (openAfter [] (x .events)) event) (beside .same-stream)
+      ∙ sym (next-handed f rows′ depth′ s′ (beside .other) c .labels-right (same-ended ∙ e))
 
   -- 8 and the lines after it.
   abbrev later : Watching → List (Line Judged)
   later x =
       refuses (x .now .finished) why.Finished
-      ∷ (eventLines (t .labels) (x .now) event ++ rowsLines (x .now) (taking t (x .now) (x .work) event))
+      ∷ (eventLines (t .labels) (x .now) (newestWord (x .now) (x .work)) event ++ rowsLines (x .now) (taking t (x .now) (x .work) event))
 
   later-looser : Looser Wants (later s) (later s′)
   later-looser = go (s .stream .ended) refl
@@ -136,7 +151,7 @@ module _ (f : List ℕ) (rows depth rows′ depth′ : ℕ) (more-rows : rows �
       over = numbers-now f rows depth s (beside .one) .3
 
       over′ : s′ .now .finished ≡ s .stream .ended
-      over′ = numbers-now f rows′ depth′ s′ (beside .other) .3 ∙ ap (λ (x : Stream). x .ended) (sym (beside .same-stream))
+      over′ = numbers-now f rows′ depth′ s′ (beside .other) .3 ∙ same-ended
 
       deeper : s .now .allowed ≤ s′ .now .allowed
       deeper = omega (arith, more-depth, numbers-now f rows depth s (beside .one) .1, numbers-now f rows′ depth′ s′ (beside .other) .1)
@@ -152,11 +167,12 @@ module _ (f : List ℕ) (rows depth rows′ depth′ : ℕ) (more-rows : rows �
           (Looser.same refl
           (Looser.same refl
           (Looser.same (ap (λ d. closesNothing d event) same-depth)
+          (Looser.same (same-labels h)
           (Looser.wants (inl refl) (too-deep-less event _ _ _ _ same-depth deeper)
           (Looser.same (ap (λ d. endsOpen d event) same-depth)
           (Looser.same (ap (λ p. outOfPositions p event) same-positions)
           (Looser.wants (inr refl) (too-many-less _ _ _ _ roomier left)
-          Looser.none)))))))
+          Looser.none))))))))
 
   -- The second's lines of refusals are looser.
   looser : Looser Wants (linesOf f s c) (lines f (s′ .now) (s′ .work) (length (c′ .lent)) (meaningOf (c .byte)))

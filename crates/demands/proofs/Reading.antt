@@ -1,8 +1,8 @@
 -- A byte that was judged, as an event of the stream: what it means, and that the stream goes on with it. Assumes nothing.
 use mathlib.Core.Bool.{false}
-use mathlib.Core.List.{List, [], _∷_, _++_}
+use mathlib.Core.List.{List, [], _∷_, _++_, append-nil}
 use mathlib.Core.Path.{_≡_, refl, sym, ap, subst}
-use Prim.Native.Nat.{ℕ, suc, _+_, _-_, _≤_}
+use Prim.Native.Nat.{ℕ, suc, _+_, _-_, _<_, _≤_}
 use native.Mathlib.Numerals.{add-one}
 use native.Mathlib.Omega.{arith}
 use Rattle.meaning.specs.Table.{Table}
@@ -11,54 +11,75 @@ use Rattle.meaning.specs.Streams.{positions, Reads}
 use Rattle.rows.specs.Steps.{depthAfter}
 use Rattle.answers.specs.declared.Record.{Record}
 use Rattle.answers.specs.declared.Event.{Event}
-use Rattle.answers.specs.declared.Event.the-variants.{Open, Point, Close, End, Unknown}
+use Rattle.answers.specs.declared.Event.the-variants.{Open, Point, Close, CloseOf, End, Unknown}
+use Rattle.answers.specs.Bytes.{eventOf}
 use Rattle.judge.proofs.Passed.{EventPassed}
 use Rattle.engine.specs.Calls.{stepRecord, stepped, taking}
 use Rattle.demands.specs.Watching.{Stream, longer}
 
--- A byte that means an event of the stream means this.
-abbrev pub byteOf : stream.Event → Event
-byteOf (stream.Open a) = Open a
-byteOf (stream.Point a) = Point a
-byteOf stream.Close = Close
+-- The events taken are those that the bytes are.
+pub longer-events : (s : Stream) (x : Event) → longer s x .events ≡ s .events ++ eventOf x
+longer-events s (Open a) = refl
+longer-events s (Point a) = refl
+longer-events s Close = refl
+longer-events s (CloseOf a) = refl
+longer-events s End = sym (append-nil (s .events))
+longer-events s Unknown = sym (append-nil (s .events))
 
--- What a byte means: an event of the stream, the end, or nothing.
-pub data Kind : Event → Type 0 where
-  event : (e : stream.Event) → Kind (byteOf e)
-  end : Kind End
-  nothing : Kind Unknown
+-- What a byte means is this event of the stream. Both closes are one.
+pub data Means : Event → stream.Event → Type 0 where
+  opens : {a : ℕ} → Means (Open a) (stream.Open a)
+  points : {a : ℕ} → Means (Point a) (stream.Point a)
+  closes : Means Close stream.Close
+  closes-its : {a : ℕ} → Means (CloseOf a) stream.Close
 
-pub kind : (e : Event) → Kind e
-kind (Open a) = event (stream.Open a)
-kind (Point a) = event (stream.Point a)
-kind Close = event stream.Close
-kind End = end
-kind Unknown = nothing
+-- It is an event of the stream, the end, or nothing.
+pub data Kind (x : Event) : Type 0 where
+  event : (e : stream.Event) → Means x e → Kind x
+  end : x ≡ End → Kind x
+  nothing : x ≡ Unknown → Kind x
 
-pub taking-event : (t : Table) (r : Record) (work : List ℕ) (e : stream.Event) → taking t r work (byteOf e) ≡ stepped t r work e
-taking-event t r work (stream.Open a) = refl
-taking-event t r work (stream.Point a) = refl
-taking-event t r work stream.Close = refl
+pub kind : (x : Event) → Kind x
+kind (Open a) = Kind.event (stream.Open a) Means.opens
+kind (Point a) = Kind.event (stream.Point a) Means.points
+kind Close = Kind.event stream.Close Means.closes
+kind (CloseOf a) = Kind.event stream.Close Means.closes-its
+kind End = Kind.end refl
+kind Unknown = Kind.nothing refl
 
-pub longer-event : (s : Stream) (e : stream.Event) → longer s (byteOf e) ≡ record { events = s .events ++ (e ∷ []); ended = s .ended }
-longer-event s (stream.Open a) = refl
-longer-event s (stream.Point a) = refl
-longer-event s stream.Close = refl
+pub taking-event : (t : Table) (r : Record) (work : List ℕ) {x : Event} {e : stream.Event} → Means x e → taking t r work x ≡ stepped t r work e
+taking-event t r work Means.opens = refl
+taking-event t r work Means.points = refl
+taking-event t r work Means.closes = refl
+taking-event t r work Means.closes-its = refl
 
--- An event that passed 9 to 14 is read, within the depth allowed and the positions that there are.
+pub longer-event : (s : Stream) {x : Event} {e : stream.Event} → Means x e → longer s x ≡ record { events = s .events ++ (e ∷ []); ended = s .ended }
+longer-event s Means.opens = refl
+longer-event s Means.points = refl
+longer-event s Means.closes = refl
+longer-event s Means.closes-its = refl
+
+-- An event that passed the lines before the last is read, within the depth allowed and the positions that there are.
 pub record Readable (k : ℕ) (r : Record) (e : stream.Event) : Type 0 where
   pub reads-on : Reads k (r .depth) (e ∷ []) (depthAfter e (r .depth))
   pub still-deep : depthAfter e (r .depth) ≤ r .allowed
   pub still-numbered : r .positions + positions (e ∷ []) ≤ 2147483647
 
-pub readable : (k : ℕ) (r : Record) (e : stream.Event) → EventPassed k r (byteOf e) → r .depth ≤ r .allowed → r .positions ≤ 2147483647 → Readable k r e
-readable k r (stream.Open a) p d n =
-    record { reads-on = rw (add-one (r .depth)) (Reads.opens (p .0) Reads.none); still-deep = omega (arith, p .1); still-numbered = omega (arith, p .2) }
-readable k r (stream.Point a) p d n =
-    record { reads-on = Reads.points (p .0) Reads.none; still-deep = d; still-numbered = omega (arith, p .1) }
-readable k r stream.Close p d n =
+-- A close, where something is open.
+closed-one : (k : ℕ) (r : Record) → 0 < r .depth → r .depth ≤ r .allowed → r .positions ≤ 2147483647 → Readable k r stream.Close
+closed-one k r p d n =
     let e : r .depth ≡ suc (r .depth - 1) = omega (arith, p) in
     record { reads-on = subst (λ (x : ℕ). Reads k x (stream.Close ∷ []) (r .depth - 1)) (sym e) (Reads.closes Reads.none); still-deep = omega arith; still-numbered = omega arith }
+
+pub readable :
+    (k : ℕ) (r : Record) {x : Event} {e : stream.Event} → Means x e → EventPassed k r x → r .depth ≤ r .allowed → r .positions ≤ 2147483647 →
+    Readable k r e
+readable k r Means.opens p d n =
+    record { reads-on = rw (add-one (r .depth)) (Reads.opens (p .0) Reads.none); still-deep = omega (arith, p .1); still-numbered = omega (arith, p .2) }
+readable k r Means.points p d n =
+    record { reads-on = Reads.points (p .0) Reads.none; still-deep = d; still-numbered = omega (arith, p .1) }
+readable k r Means.closes p d n = closed-one k r p d n
+readable k r Means.closes-its p d n = closed-one k r p d n
 
 -- The record after an event is that of the stream with it.
 pub record-on : (rows depth d alive p : ℕ) (e : stream.Event) →

@@ -3,12 +3,13 @@ use mathlib.Core.List.{List, [], _∷_, _++_}
 use mathlib.Core.Path.{_≡_, refl, sym, ap, _∙_}
 use Prim.Native.Nat.{ℕ, _+_, _-_}
 use native.Mathlib.Omega.{arith}
-use lib.ListN.{length, take, drop}
+use lib.ListN.{length, take, drop, length-drop, take-append-drop}
 use lib.Seq.{take-at}
 use Rattle.meaning.specs.Refusals.{Line, firstOf}
 use Rattle.meaning.proofs.Refusals.{none-taken}
 use Rattle.bodies.specs.Sound.{statesIn}
-use Rattle.places.specs.Places.{rowAt}
+use Rattle.places.specs.Places.{rowAt, rowsLength, rowsPart, labelsPart}
+use Rattle.places.specs.Memory.{rowsWords, labelsWords, workWords}
 use Rattle.meaning.specs.Lent.{onFront}
 use Rattle.stepping.proofs.Whole.{state-words, words-back}
 use Rattle.answers.specs.declared.Record.{Record}
@@ -20,7 +21,7 @@ use Rattle.judge.specs.declared.Judged.{Judged}
 use Rattle.judge.specs.declared.Judged.the-variants.{Fine, Refused}
 use Rattle.judge.specs.Judging.{judgedNumber, judgedLines}
 use Rattle.judge.proofs.Passed.{Passed, passed}
-use Rattle.engine.specs.Calls.{After, lines, memoryOf, unless, answerOf, eventJudged, eventAfter, eventAnswer, eventWork, eventReports}
+use Rattle.engine.specs.Calls.{After, Ready, lines, memoryOf, labelsOf, unless, answerOf, eventJudged, eventAfter, eventAnswer, eventWork, eventReports}
 use Rattle.engine.proofs.Numbers.{event-taken}
 use Rattle.engine.proofs.Ready.{ready}
 use Rattle.engine.proofs.Taking.{judged-stands}
@@ -31,12 +32,25 @@ use Rattle.demands.specs.Demands.{StepDemand2}
 pub not-fine : {why : Refusal} → Refused why ≡ Fine → ⊥
 not-fine e = let z : _≡_ {A = ℕ} 0 1 = cc in omega (arith, z)
 
+-- Work memory that can be stepped is the words of its rows and then those of its labels.
+ready-stands : (n : ℕ) (r : Record) (work : List ℕ) → Ready n r work → work ≡ workWords (r .rows) (r .allowed) (memoryOf r work) (labelsOf r work)
+ready-stands n r work s =
+    let front : List ℕ = rowsPart (r .rows) (r .allowed) work in
+    let after : List ℕ = labelsPart (r .rows) (r .allowed) work in
+    let long : length after ≡ r .allowed = length-drop (rowsLength (r .rows) (r .allowed)) work ∙ omega (arith, s .size) in
+    sym (take-append-drop (rowsLength (r .rows) (r .allowed)) work)
+    ∙ ap (λ (ws : List ℕ). ws ++ after)
+    (words-back (r .rows) (r .allowed) (length front - rowAt (r .allowed) (r .alive + 1)) (memoryOf r work) front
+    (state-words n (r .rows) (r .allowed) (r .depth) (r .alive) front (s .rows)) (s .rows .size))
+    ∙ ap (λ (ws : List ℕ). rowsWords (r .rows) (r .allowed) (memoryOf r work) ++ ws)
+    (s .labels .same ∙ ap (λ (i : ℕ). labelsWords i (labelsOf r work)) long)
+
 module _ (f : List ℕ) (r : Record) (work reports : List ℕ) (byte : ℕ) where
   -- A call that was taken was not refused.
   pub taken-judged : outcomeNumber (eventAnswer f r work reports byte .outcome) ≡ 0 → eventJudged f r work reports byte ≡ Fine
   taken-judged h = none-taken judgedNumber Fine (lines f r work (length reports) (meaningOf byte)) (event-taken f r work reports byte .0 h)
 
-  -- By none of 1 to 14 either.
+  -- By no line before the last either.
   pub early-judged : eventJudged f r work reports byte ≡ Fine → firstOf (judgedLines f r work (length reports) (meaningOf byte)) Fine ≡ Fine
   early-judged h = go (firstOf (judgedLines f r work (length reports) (meaningOf byte)) Fine) refl
     where
@@ -61,10 +75,8 @@ module _ (f : List ℕ) (r : Record) (work reports : List ℕ) (byte : ℕ) wher
   pub step-demand-2 : outcomeNumber (eventAnswer f r work reports byte .outcome) ≡ 0 → StepDemand2 f r work reports byte
   step-demand-2 h =
       let e = taken-judged h in
-      let p = taken-passed e in
-      let s = ready f work r (length reports) p in
       record {
-        stands = words-back (r .rows) (r .allowed) (length work - rowAt (r .allowed) (r .alive + 1)) (memoryOf r work) work (state-words (statesIn f) (r .rows) (r .allowed) (r .depth) (r .alive) work s) (p .size);
+        stands = ready-stands (statesIn f) r work (ready f work r (length reports) (taken-passed e));
         next = ap (λ (x : Answer). x .next) (taken-answer e);
         memory = taken-work e;
         told = taken-reports e;
@@ -83,7 +95,7 @@ module _ (f : List ℕ) (s : Watching) (c : Call) where
   abbrev pub afterOf : After
   afterOf = eventAfter f (s .now) (s .work) (c .byte)
 
-  -- The lines 1 to 14 that it meets.
+  -- The lines that it meets but the last.
   abbrev pub firstLines : List (Line Judged)
   firstLines = judgedLines f (s .now) (s .work) (length (c .lent)) (meaningOf (c .byte))
 

@@ -3,15 +3,15 @@
 --
 -- f is the table file. What is said of a watch s is asked of every watch that a taken start and any calls lead to; what is said
 -- of a call c, of every next call.
-use mathlib.Core.Bool.{true, false}
-use mathlib.Core.List.{List, map}
+use mathlib.Core.Bool.{Bool, true, false, not}
+use mathlib.Core.List.{List, [], _∷_, map}
 use mathlib.Core.Logic.{_↔_, _⊎_}
 use mathlib.Core.Path.{_≡_}
 use Prim.Native.Nat.{ℕ, _+_, _<_}
-use lib.Dec.{T, ltb}
-use lib.ListN.{length, replicate}
+use lib.Dec.{T, eqb, ltb}
+use lib.ListN.{length, getD, replicate}
 use Rattle.meaning.specs.Table.{Table, tableOf}
-use Rattle.meaning.specs.Streams.{positions, Prefix, Whole, Selects}
+use Rattle.meaning.specs.Streams.{positions, openAfter, Prefix, Whole, Selects}
 use Rattle.meaning.specs.Hedges.{Hedge, Labelled, streamOf, evaluate}
 use Rattle.meaning.specs.Refusals.{FirstAt, appliesAt}
 use Rattle.places.specs.Places.{workLength}
@@ -21,13 +21,15 @@ use Rattle.meaning.specs.Lent.{onFront}
 use Rattle.order.specs.declared.Shape.{Shape}
 use Rattle.order.specs.Order.{wordRight}
 use Rattle.answers.specs.declared.Record.{Record}
+use Rattle.answers.specs.declared.Event.{Event}
+use Rattle.answers.specs.declared.Event.the-variants.{Open, Point, Close, CloseOf, End, Unknown}
 use Rattle.answers.specs.declared.Outcome.the-variants.{Refused}
 use Rattle.answers.specs.declared.Refusal.the-variants as why
 use Rattle.answers.specs.Record.{noRecord}
 use Rattle.answers.specs.Bytes.{meaningOf}
-use Rattle.answers.specs.Answers.{outcomeNumber}
+use Rattle.answers.specs.Answers.{refusalRank, checked, outcomeNumber, outcomeRank}
 use Rattle.judge.specs.Judging.{recordRight, shapeOf, startLines}
-use Rattle.engine.specs.Calls.{memoryOf, lines, eventAfter, eventAnswer, eventWork, eventReports, startAnswer, startWork}
+use Rattle.engine.specs.Calls.{memoryOf, labelsOf, lines, eventAfter, eventAnswer, eventWork, eventReports, startAnswer, startWork}
 use Rattle.following.specs.Lists.{In, Rising, positionOf, times}
 use Rattle.following.specs.Following.{memoryAfter, heldAfter, positionsOf}
 use Rattle.demands.specs.Watching.{Call, Stream, Watching, longer, countOf, linesOf, outcomeOf, given, called, calledAll, joined}
@@ -41,25 +43,27 @@ pub record FirstWrong (s : Shape) (words : List ℕ) (i : ℕ) : Type 0 where
   pub wrong : wordRight s words i ≡ false
   pub right-before : (j : ℕ) → j < i → wordRight s words j ≡ true
 
--- The place that refusal 7 is to carry, for a table with n states.
-abbrev pub FaultAt : Record → ℕ → List ℕ → ℕ → Type 0
-FaultAt r n work i = ((recordRight r ≡ false) × (i ≡ length work)) ⊎ ((recordRight r ≡ true) × FirstWrong (shapeOf r n) work i)
+-- The place that refusal 7 is to carry, for a table with n states and k labels.
+abbrev pub FaultAt : Record → ℕ → ℕ → List ℕ → ℕ → Type 0
+FaultAt r n k work i = ((recordRight r ≡ false) × (i ≡ length work)) ⊎ ((recordRight r ≡ true) × FirstWrong (shapeOf r n k) work i)
 
 -- Of an event call with any table, record, memory, slice for reports and byte.
 pub record Demand1 (f : List ℕ) (r : Record) (work reports : List ℕ) (byte : ℕ) : Type 0 where
-  -- Refusal i + 1 is given exactly when its line applies and no line before it does.
+  -- The refusal of rank i + 1 is given exactly when its line applies and no line before it does.
   pub refused-exactly :
-      (i : ℕ) → i < 15 →
-      (outcomeNumber (eventAnswer f r work reports byte .outcome) ≡ i + 1) ↔ FirstAt (lines f r work (length reports) (meaningOf byte)) i
+      (i : ℕ) → i < 16 →
+      (outcomeRank (eventAnswer f r work reports byte .outcome) ≡ i + 1) ↔ FirstAt (lines f r work (length reports) (meaningOf byte)) i
+  -- Its number is the one that stands at its rank in the order of checking.
+  pub numbered : outcomeNumber (eventAnswer f r work reports byte .outcome) ≡ getD (0 ∷ checked) (outcomeRank (eventAnswer f r work reports byte .outcome)) 0
   -- The call is taken exactly when no line applies.
   pub taken-exactly :
       (outcomeNumber (eventAnswer f r work reports byte .outcome) ≡ 0)
       ↔ ((i : ℕ) → appliesAt (lines f r work (length reports) (meaningOf byte)) i ≡ false)
-  -- It is taken, or refused by one of the fifteen.
-  pub answered : outcomeNumber (eventAnswer f r work reports byte .outcome) < 16
+  -- It is taken, or refused by one of the sixteen.
+  pub answered : outcomeRank (eventAnswer f r work reports byte .outcome) < 17
   -- Refusal 7 carries the place of the first word out of order; the length of memory where the record by itself is.
   pub place :
-      (i : ℕ) → eventAnswer f r work reports byte .outcome ≡ Refused (why.Order i) → FaultAt r (tableOf f .states) work i
+      (i : ℕ) → eventAnswer f r work reports byte .outcome ≡ Refused (why.Order i) → FaultAt r (tableOf f .states) (tableOf f .labels) work i
   -- Refused, it gives its record back and 0 as the number of reports, and leaves memory and reports as they were.
   pub kept :
       0 < outcomeNumber (eventAnswer f r work reports byte .outcome) →
@@ -72,10 +76,11 @@ pub record Demand1 (f : List ℕ) (r : Record) (work reports : List ℕ) (byte :
 pub record StartDemand1 (f : List ℕ) (rows depth : ℕ) (work : List ℕ) : Type 0 where
   pub refused-exactly :
       (i : ℕ) → i < 6 →
-      (outcomeNumber (startAnswer f rows depth work .outcome) ≡ i + 1) ↔ FirstAt (startLines f rows depth (length work)) i
+      (outcomeRank (startAnswer f rows depth work .outcome) ≡ i + 1) ↔ FirstAt (startLines f rows depth (length work)) i
+  pub numbered : outcomeNumber (startAnswer f rows depth work .outcome) ≡ getD (0 ∷ checked) (outcomeRank (startAnswer f rows depth work .outcome)) 0
   pub taken-exactly :
       (outcomeNumber (startAnswer f rows depth work .outcome) ≡ 0) ↔ ((i : ℕ) → appliesAt (startLines f rows depth (length work)) i ≡ false)
-  pub answered : outcomeNumber (startAnswer f rows depth work .outcome) < 7
+  pub answered : outcomeRank (startAnswer f rows depth work .outcome) < 7
   -- Refused, it gives a record of zeros and leaves memory as it was.
   pub kept :
       0 < outcomeNumber (startAnswer f rows depth work .outcome) →
@@ -85,9 +90,9 @@ pub record StartDemand1 (f : List ℕ) (rows depth : ℕ) (work : List ℕ) : Ty
 
 -- Of a taken event call, whoever made the record and the memory: it leads to the state that the rules name.
 pub record StepDemand2 (f : List ℕ) (r : Record) (work reports : List ℕ) (byte : ℕ) : Type 0 where
-  -- Memory is the words of the rows that it stands for, and nothing else.
-  pub stands : work ≡ workWords (r .rows) (r .allowed) (memoryOf r work)
-  -- Those rows are stepped: the record, every word of memory, the reports and their number afterwards.
+  -- Memory is the words of the rows and the open labels that it stands for, and nothing else.
+  pub stands : work ≡ workWords (r .rows) (r .allowed) (memoryOf r work) (labelsOf r work)
+  -- Those are stepped: the record, every word of memory, the reports and their number afterwards.
   pub next : eventAnswer f r work reports byte .next ≡ eventAfter f r work byte .next
   pub memory : eventWork f r work reports byte ≡ eventAfter f r work byte .work
   pub told : eventReports f r work reports byte ≡ onFront (eventAfter f r work byte .reports) reports
@@ -123,8 +128,11 @@ pub record Demand2 (f : List ℕ) (rows depth : ℕ) (s : Watching) : Type 0 whe
   pub alive-is : (alive : List ℕ) → AliveAre (tableOf f) (s .stream) alive → s .now .alive ≡ length alive
   pub finished-is : s .now .finished ≡ s .stream .ended
   pub room-is : (s .now .rows ≡ rows) × (s .now .allowed ≡ depth)
-  -- Every word of memory is that of the rows built from the start; after the end every word is 0.
-  pub memory-is : s .stream .ended ≡ false → s .work ≡ workWords rows depth (memoryAfter (tableOf f) (s .stream .events))
+  -- Every word of memory is that of the rows built from the start, or of the labels of what is open; after the end every
+  -- word is 0.
+  pub memory-is :
+      s .stream .ended ≡ false →
+      s .work ≡ workWords rows depth (memoryAfter (tableOf f) (s .stream .events)) (openAfter [] (s .stream .events))
   pub memory-after-end : s .stream .ended ≡ true → s .work ≡ replicate (workLength rows depth) 0
 
 ---------------------------------------------------------------- demand 3
@@ -173,6 +181,16 @@ pub record StandingDemand3 (f : List ℕ) (s : Watching) : Type 0 where
 
 ---------------------------------------------------------------- handed back as received
 
+-- The event closes with a label that is not the newest's, where o is open.
+abbrev pub closesOther : List ℕ → Event → Bool
+closesOther o (Open a) = false
+closesOther o (Point a) = false
+closesOther o Close = false
+closesOther [] (CloseOf a) = false
+closesOther (b ∷ o) (CloseOf a) = not (eqb a b)
+closesOther o End = false
+closesOther o Unknown = false
+
 -- Of a watch with so many rows and its next call, the record and memory handed back as received: 1 to 5 and 7 never apply, 6 only to
 -- a slice for reports that is too short, and 8 exactly after the end.
 pub record Handed (f : List ℕ) (rows : ℕ) (s : Watching) (c : Call) : Type 0 where
@@ -180,12 +198,15 @@ pub record Handed (f : List ℕ) (rows : ℕ) (s : Watching) (c : Call) : Type 0
   pub size-right : appliesAt (linesOf f s c) 5 ≡ ltb (length (c .lent)) (rows + 1)
   pub in-order : appliesAt (linesOf f s c) 6 ≡ false
   pub going-on : appliesAt (linesOf f s c) 7 ≡ s .stream .ended
+  -- 16, of rank 12, applies exactly to a close with another label than the one that opened the newest level.
+  pub labels-right : s .stream .ended ≡ false → appliesAt (linesOf f s c) 11 ≡ closesOther (openAfter [] (s .stream .events)) (meaningOf (c .byte))
 
 ---------------------------------------------------------------- want of rows
 
--- Where no earlier refusal applies, 15 is given exactly if more positions would be alive after the event than rows.
+-- Where no refusal of a lower rank applies, want of rows is given exactly if more positions would be alive after the event
+-- than rows.
 abbrev pub WantOfRows : List ℕ → Watching → Call → Type 0
 WantOfRows f s c =
-    ((i : ℕ) → i < 14 → appliesAt (linesOf f s c) i ≡ false) →
+    ((i : ℕ) → i + 1 < refusalRank why.Rows → appliesAt (linesOf f s c) i ≡ false) →
     (alive : List ℕ) → AliveAre (tableOf f) (longer (s .stream) (meaningOf (c .byte))) alive →
-    (outcomeNumber (outcomeOf f s c) ≡ 15) ↔ (s .now .rows < length alive)
+    (outcomeRank (outcomeOf f s c) ≡ refusalRank why.Rows) ↔ (s .now .rows < length alive)

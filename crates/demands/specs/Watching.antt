@@ -9,7 +9,7 @@ use Rattle.meaning.specs.Refusals.{Line}
 use Rattle.meaning.specs.Streams as stream
 use Rattle.answers.specs.declared.Record.{Record}
 use Rattle.answers.specs.declared.Event.{Event}
-use Rattle.answers.specs.declared.Event.the-variants.{Open, Point, Close, End, Unknown}
+use Rattle.answers.specs.declared.Event.the-variants.{Open, Point, Close, CloseOf, End, Unknown}
 use Rattle.answers.specs.declared.Outcome.{Outcome}
 use Rattle.answers.specs.declared.Outcome.the-variants.{Taken, Refused}
 use Rattle.answers.specs.Bytes.{meaningOf}
@@ -28,11 +28,12 @@ pub record Stream : Type 0 where
   pub events : List stream.Event
   pub ended : Bool
 
--- One taken event more. A byte that means nothing is never taken.
+-- One taken event more. Both closes are one event. A byte that means nothing is never taken.
 abbrev pub longer : Stream → Event → Stream
 longer s (Open a) = record { events = s .events ++ (stream.Open a ∷ []); ended = s .ended }
 longer s (Point a) = record { events = s .events ++ (stream.Point a ∷ []); ended = s .ended }
 longer s Close = record { events = s .events ++ (stream.Close ∷ []); ended = s .ended }
+longer s (CloseOf a) = record { events = s .events ++ (stream.Close ∷ []); ended = s .ended }
 longer s End = record { events = s .events; ended = true }
 longer s Unknown = s
 
@@ -73,7 +74,7 @@ Started f rows depth work = outcomeNumber (startAnswer f rows depth work .outcom
 ---------------------------------------------------------------- an event call
 
 module _ (f : List ℕ) (s : Watching) (c : Call) where
-  -- The lines of refusals that it meets, 1 to 15.
+  -- The lines of refusals that it meets.
   abbrev pub linesOf : List (Line Judged)
   linesOf = lines f (s .now) (s .work) (length (c .lent)) (meaningOf (c .byte))
 

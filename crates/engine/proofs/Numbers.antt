@@ -1,5 +1,5 @@
--- Each number that a call answers is given exactly when its line applies and none before it does; a refused call keeps
--- what it was lent. Assumes nothing.
+-- A refusal of each rank is given exactly when its line applies and none before it does, and the call is taken exactly when
+-- none applies; a refused call keeps what it was lent. Assumes nothing.
 use mathlib.Core.Bool.{Bool, true, false, cond}
 use mathlib.Core.List.{List}
 use mathlib.Core.Logic.{_↔_}
@@ -18,19 +18,23 @@ use Rattle.answers.specs.declared.Record.{Record}
 use Rattle.answers.specs.declared.Refusal.the-variants as why
 use Rattle.answers.specs.Record.{noRecord}
 use Rattle.answers.specs.Bytes.{meaningOf}
-use Rattle.answers.specs.Answers.{outcomeNumber}
+use Rattle.answers.specs.Answers.{outcomeNumber, outcomeRank}
 use Rattle.judge.specs.declared.Judged.{Judged}
 use Rattle.judge.specs.declared.Judged.the-variants.{Fine, Refused}
-use Rattle.judge.specs.Judging.{judgedNumber, judgedLines, startLines}
+use Rattle.judge.specs.Judging.{judgedNumber, judgedRank, judgedLines, startLines}
 use Rattle.engine.specs.Calls.{After, lines, taking, unless, answerOf}
 use Rattle.engine.specs.Calls.{eventJudged, eventAfter, eventAnswer, eventWork, eventReports}
 use Rattle.engine.specs.Calls.{startJudged, startAfter, startAnswer, startWork}
 use Rattle.engine.proofs.Taking.{judged-passes}
 
--- An answer has the number of its judgement.
+-- An answer has the number and the rank of its judgement.
 pub answer-number : (j : Judged) (r : Record) (after : After) → outcomeNumber (answerOf j r after .outcome) ≡ judgedNumber j
 answer-number Fine r after = refl
 answer-number (Refused why) r after = refl
+
+pub answer-rank : (j : Judged) (r : Record) (after : After) → outcomeRank (answerOf j r after .outcome) ≡ judgedRank j
+answer-rank Fine r after = refl
+answer-rank (Refused why) r after = refl
 
 -- A judgement with a number above 0 keeps the old record, and the old of anything else.
 old-next : (j : Judged) (r : Record) (after : After) → 0 < outcomeNumber (answerOf j r after .outcome) → answerOf j r after .next ≡ r
@@ -41,27 +45,29 @@ old-kept : (j : Judged) (r : Record) (after : After) (old new : List ℕ) → 0 
 old-kept Fine r after old new h = absurd (omega (arith, h))
 old-kept (Refused why) r after old new h = refl
 
--- Lines that give the numbers 1 to `count`, in order: number i + 1 is given exactly when line i, counted from 0, applies
--- and none before it does.
-numbered-exactly :
-    (ls : List (Line Judged)) (count : ℕ) → length ls ≡ count → T (distinct (numbers judgedNumber ls Fine)) →
-    all count (λ i. eqb (judgedNumber (givesAt ls Fine i)) (i + 1)) ≡ true → (x : ℕ) → x ≡ judgedNumber (firstOf ls Fine) →
+-- Lines that give the ranks 1 to `count`, in order: rank i + 1 is given exactly when line i, counted from 0, applies and
+-- none before it does.
+ranked-exactly :
+    (ls : List (Line Judged)) (count : ℕ) → length ls ≡ count → T (distinct (numbers judgedRank ls Fine)) →
+    all count (λ i. eqb (judgedRank (givesAt ls Fine i)) (i + 1)) ≡ true → (x : ℕ) → x ≡ judgedRank (firstOf ls Fine) →
     (i : ℕ) → i < count → (x ≡ i + 1) ↔ FirstAt ls i
-numbered-exactly ls count long different in-order x e i l =
-    let number : judgedNumber (givesAt ls Fine i) ≡ i + 1 = eqb-true _ _ (all-holds count (λ i. eqb (judgedNumber (givesAt ls Fine i)) (i + 1)) in-order i l) in
-    let exactly = given-exactly judgedNumber Fine ls different i (omega (arith, long)) in
-    (λ h. exactly .0 (sym e ∙ h ∙ sym number), λ h. e ∙ exactly .1 h ∙ number)
+ranked-exactly ls count long different in-order x e i l =
+    let rank : judgedRank (givesAt ls Fine i) ≡ i + 1 = eqb-true _ _ (all-holds count (λ i. eqb (judgedRank (givesAt ls Fine i)) (i + 1)) in-order i l) in
+    let exactly = given-exactly judgedRank Fine ls different i (omega (arith, long)) in
+    (λ h. exactly .0 (sym e ∙ h ∙ sym rank), λ h. e ∙ exactly .1 h ∙ rank)
 
 module _ (f : List ℕ) (r : Record) (work reports : List ℕ) (byte : ℕ) where
   answered : outcomeNumber (eventAnswer f r work reports byte .outcome) ≡ judgedNumber (eventJudged f r work reports byte)
   answered = answer-number (eventJudged f r work reports byte) r (eventAfter f r work byte)
 
-  -- An event: number i + 1, from 1 to 15, is answered exactly when line i, counted from 0, applies and none before it
-  -- does.
+  -- An event: a refusal of rank i + 1, from 1 to 16, is answered exactly when line i, counted from 0, applies and none
+  -- before it does.
   pub event-exactly :
-      (i : ℕ) → i < 15 →
-      (outcomeNumber (eventAnswer f r work reports byte .outcome) ≡ i + 1) ↔ FirstAt (lines f r work (length reports) (meaningOf byte)) i
-  event-exactly i l = numbered-exactly (lines f r work (length reports) (meaningOf byte)) 15 refl tt refl _ answered i l
+      (i : ℕ) → i < 16 →
+      (outcomeRank (eventAnswer f r work reports byte .outcome) ≡ i + 1) ↔ FirstAt (lines f r work (length reports) (meaningOf byte)) i
+  event-exactly i l =
+      let ranked = answer-rank (eventJudged f r work reports byte) r (eventAfter f r work byte) in
+      ranked-exactly (lines f r work (length reports) (meaningOf byte)) 16 refl tt refl _ ranked i l
 
   -- An event is taken exactly when no line applies.
   pub event-taken :
@@ -80,7 +86,7 @@ module _ (f : List ℕ) (r : Record) (work reports : List ℕ) (byte : ℕ) wher
       let after = eventAfter f r work byte in
       (old-next j r after h, old-kept j r after work _ h, old-kept j r after reports _ h)
 
-  -- Where none of 1 to 14 applies: 15 is given exactly when more positions would be alive after the event than rows.
+  -- Where no line before applies: 15 is given exactly when more positions would be alive after the event than rows.
   pub room-exactly :
       firstOf (judgedLines f r work (length reports) (meaningOf byte)) Fine ≡ Fine →
       (eventJudged f r work reports byte ≡ Refused why.Rows) ↔ (r .rows < taking (tableOf f) r work (meaningOf byte) .next .alive)
@@ -98,11 +104,13 @@ module _ (f : List ℕ) (rows depth : ℕ) (work : List ℕ) where
   started : outcomeNumber (startAnswer f rows depth work .outcome) ≡ judgedNumber (startJudged f rows depth work)
   started = answer-number (startJudged f rows depth work) noRecord (startAfter f rows depth)
 
-  -- A start: the same of 1 to 6.
+  -- A start: the same of ranks 1 to 6.
   pub start-exactly :
       (i : ℕ) → i < 6 →
-      (outcomeNumber (startAnswer f rows depth work .outcome) ≡ i + 1) ↔ FirstAt (startLines f rows depth (length work)) i
-  start-exactly i l = numbered-exactly (startLines f rows depth (length work)) 6 refl tt refl _ started i l
+      (outcomeRank (startAnswer f rows depth work .outcome) ≡ i + 1) ↔ FirstAt (startLines f rows depth (length work)) i
+  start-exactly i l =
+      let ranked = answer-rank (startJudged f rows depth work) noRecord (startAfter f rows depth) in
+      ranked-exactly (startLines f rows depth (length work)) 6 refl tt refl _ ranked i l
 
   pub start-taken :
       (outcomeNumber (startAnswer f rows depth work .outcome) ≡ 0)

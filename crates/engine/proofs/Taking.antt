@@ -1,8 +1,8 @@
--- The answer of an event whose lines are judged: refused by 1 to 14, for want of rows, or taken. Assumes nothing.
+-- The answer of an event whose lines are judged: refused by one of the lines before the last, for want of rows, or taken. Assumes nothing.
 use mathlib.Core.Path.{_≡_, refl, sym, ap, _∙_, subst}
 use mathlib.Core.Bool.{Bool, true, false, cond}
 use mathlib.Core.List.{List, [], _∷_, _++_}
-use Prim.Native.Nat.{ℕ, suc, _+_, _<_, _≤_}
+use Prim.Native.Nat.{ℕ, suc, _+_, _<_}
 use native.Mathlib.Omega.{arith}
 use lib.Dec.{ltb}
 use lib.ListN.{length}
@@ -18,7 +18,7 @@ use Rattle.rows.specs.declared.Step.the-variants as step
 use Rattle.rows.specs.Steps.{eventOf, Can}
 use Rattle.reports.specs.Reports.{endReports}
 use Rattle.meaning.specs.Lent.{onFront}
-use Rattle.stepping.specs.Stepping.{Stands, Counted, stepMemory}
+use Rattle.stepping.specs.Stepping.{Counted, stepMemory}
 use Rattle.answers.specs.declared.Record.{Record}
 use Rattle.answers.specs.declared.Answer.{Answer}
 use Rattle.answers.specs.declared.Event.{Event}
@@ -33,7 +33,7 @@ use Rattle.judge.specs.Judging.{refuses, judgedLines}
 use Rattle.judge.proofs.Following.{first-append}
 use Rattle.judge.proofs.Passed.{EventPassed, passed, event-passed}
 use Rattle.engine.proofs.Ready.{ready}
-use Rattle.engine.specs.Calls.{After, accsFor, taking, rowsLines, unless, answerOf, roomJudged, roomAnswer, roomWork, roomReports}
+use Rattle.engine.specs.Calls.{After, Ready, accsFor, taking, rowsLines, unless, answerOf, roomJudged, roomAnswer, roomWork, roomReports}
 use Rattle.engine.specs.Calls.{eventAfter, eventAnswer, eventWork, eventReports}
 
 -- The sets acc that an event is given are all that it needs.
@@ -67,7 +67,7 @@ module _ (r : Record) (after : After) where
       let j = sym (judged-by false e) in
       (ap (λ x. answerOf x r after) j, ap (λ x. unless x work (after .work)) j, ap (λ x. unless x reports (onFront (after .reports) reports)) j)
 
----------------------------------------------------------------- 1 to 14, then 15
+---------------------------------------------------------------- the lines before, then 15
 
 -- Lines of which each refuses.
 data Refusing : List (Line Judged) → Type 0 where
@@ -84,7 +84,7 @@ first-then (l ∷ ls) (over {b} {w} rest) o = go b (first-then ls rest o)
     go false h = h
 
 judged-refusing : (f : List ℕ) (r : Record) (work : List ℕ) (reports : ℕ) (e : Event) → Refusing (judgedLines f r work reports e)
-judged-refusing f r work reports e = over (over (over (over (over (over (over (over (over (over (over (over (over (over none)))))))))))))
+judged-refusing f r work reports e = over (over (over (over (over (over (over (over (over (over (over (over (over (over (over none))))))))))))))
 
 module _ (f : List ℕ) (r : Record) (work : List ℕ) (reports : ℕ) (e : Event) (after : After) where
   judged-then : firstOf (judgedLines f r work reports e ++ rowsLines r after) Fine
@@ -93,19 +93,20 @@ module _ (f : List ℕ) (r : Record) (work : List ℕ) (reports : ℕ) (e : Even
       first-append (judgedLines f r work reports e) (rowsLines r after) Fine
       ∙ first-then (judgedLines f r work reports e) (judged-refusing f r work reports e) (roomJudged r after)
 
-  -- Refused by one of 1 to 14.
+  -- Refused by one of the lines before.
   pub judged-stands : (w : Refusal) → firstOf (judgedLines f r work reports e) Fine ≡ Refused w → firstOf (judgedLines f r work reports e ++ rowsLines r after) Fine ≡ Refused w
   judged-stands w h = judged-then ∙ ap (λ x. unless x x (roomJudged r after)) h
 
-  -- Not refused by one of 1 to 14: 15 is left.
+  -- Not refused by one of them: 15 is left.
   pub judged-passes : firstOf (judgedLines f r work reports e) Fine ≡ Fine → firstOf (judgedLines f r work reports e ++ rowsLines r after) Fine ≡ roomJudged r after
   judged-passes h = judged-then ∙ ap (λ x. unless x x (roomJudged r after)) h
 
--- The event byte's meaning that a step is.
-abbrev pub byteEvent : Step → Event
-byteEvent (step.Open a) = event.Open a
-byteEvent (step.Point a) = event.Point a
-byteEvent step.Close = event.Close
+-- An event byte's meaning and the step that it is. Both closes are one.
+pub data Is : Event → Step → Type 0 where
+  opens : {a : ℕ} → Is (event.Open a) (step.Open a)
+  points : {a : ℕ} → Is (event.Point a) (step.Point a)
+  closes : Is event.Close step.Close
+  closes-its : {a : ℕ} → Is (event.CloseOf a) step.Close
 
 ---------------------------------------------------------------- the event call
 
@@ -120,7 +121,7 @@ module _ (f : List ℕ) (r : Record) (work reports : List ℕ) (byte : ℕ) wher
       let j = sym (judged-stands f r work (length reports) (meaningOf byte) after w h) in
       (ap (λ x. answerOf x r after) j, (ap (λ x. unless x work (after .work)) j, ap (λ x. unless x reports (onFront (after .reports) reports)) j))
 
-  -- Past 1 to 14: whatever answers by 15 for the byte's meaning answers the call.
+  -- Past the lines before: whatever answers by 15 for the byte's meaning answers the call.
   pub event-by : (e : Event) → meaningOf byte ≡ e → firstOf (judgedLines f r work (length reports) (meaningOf byte)) Fine ≡ Fine → (x : Answer) (w p : List ℕ)
       → let after = taking (tableOf f) r work e in (x ≡ roomAnswer r after) × ((w ≡ roomWork r work after) × (p ≡ roomReports r reports after)) → Answers x w p
   event-by e m h x w p k =
@@ -134,26 +135,27 @@ module _ (f : List ℕ) (r : Record) (work reports : List ℕ) (byte : ℕ) wher
         ),
       )
 
--- What an event that passed 9 to 14 needs to be taken.
-can-take : (f : List ℕ) (r : Record) (s : Step) → EventPassed (labelsIn f) r (byteEvent s) → r .depth ≤ r .allowed
+-- What an event to which no line before applies needs to be taken.
+can-take : (f : List ℕ) (r : Record) {m : Event} {s : Step} → Is m s → EventPassed (labelsIn f) r m
     → Can (tableOf f) (rowLength (r .allowed)) (r .depth) (eventOf s) × Counted (eventOf s) (r .positions)
-can-take f r (step.Open a) p d = ((p .0, omega (arith, p .1)), p .2)
-can-take f r (step.Point a) p d = (p .0, p .1)
-can-take f r step.Close p d = (p, tt)
+can-take f r Is.opens p = ((p .0, omega (arith, p .1)), p .2)
+can-take f r Is.points p = (p .0, p .1)
+can-take f r Is.closes p = (p, tt)
+can-take f r Is.closes-its p = (p, tt)
 
 module _ (f work : List ℕ) (r : Record) (reports : ℕ) (e m : Event) (is : e ≡ m) (h : firstOf (judgedLines f r work reports e) Fine ≡ Fine) where
   pub passed-as : EventPassed (labelsIn f) r m
   passed-as = subst (EventPassed (labelsIn f) r) is (event-passed f work r reports e h)
 
   -- What `step` asks.
-  pub step-ready : (s : Step) → m ≡ byteEvent s → Sound f
-      × (Stands (statesIn f) (r .rows) (r .allowed) (r .depth) (r .alive) work × ((Can (tableOf f) (rowLength (r .allowed)) (r .depth) (eventOf s) × Counted (eventOf s) (r .positions)) × (r .rows < reports)))
-  step-ready s b =
+  pub step-ready : {s : Step} → Is m s → Sound f
+      × (Ready (statesIn f) r work × ((Can (tableOf f) (rowLength (r .allowed)) (r .depth) (eventOf s) × Counted (eventOf s) (r .positions)) × (r .rows < reports)))
+  step-ready b =
       let p = passed f work r reports e h in
-      (p .sound, (ready f work r reports p, (can-take f r s (subst (EventPassed (labelsIn f) r) b passed-as) (p .deep), p .enough)))
+      (p .sound, (ready f work r reports p, (can-take f r b passed-as, p .called .enough)))
 
   -- What `end` asks.
-  pub end-ready : m ≡ event.End → Sound f × (Stands (statesIn f) (r .rows) (r .allowed) (r .depth) (r .alive) work × ((r .depth ≡ 0) × (r .rows < reports)))
+  pub end-ready : m ≡ event.End → Sound f × (Ready (statesIn f) r work × ((r .depth ≡ 0) × (r .rows < reports)))
   end-ready b =
       let p = passed f work r reports e h in
-      (p .sound, (ready f work r reports p, (subst (EventPassed (labelsIn f) r) b passed-as, p .enough)))
+      (p .sound, (ready f work r reports p, (subst (EventPassed (labelsIn f) r) b passed-as, p .called .enough)))

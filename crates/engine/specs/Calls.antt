@@ -1,5 +1,6 @@
 -- What the start call and the event call answer, and what they leave in lent memory, for any input. Definitions only.
 use mathlib.Core.List.{List, [], _∷_, _++_}
+use mathlib.Core.Path.{_≡_}
 use Prim.Native.Nat.{ℕ}
 use lib.Dec.{ltb}
 use lib.ListN.{length, replicate}
@@ -7,14 +8,16 @@ use Rattle.meaning.specs.Table.{Table, tableOf}
 use Rattle.meaning.specs.Masks.{accsOf}
 use Rattle.meaning.specs.Refusals.{Line, firstOf}
 use Rattle.meaning.specs.Streams as stream
-use Rattle.places.specs.Memory.{Memory, memoryIn, workWords}
+use Rattle.meaning.specs.Streams.{openedBy}
+use Rattle.places.specs.Places.{workLength, rowsPart, labelsPart}
+use Rattle.places.specs.Memory.{Memory, memoryIn, openIn, workWords, LabelsIn}
 use Rattle.reports.specs.Reports.{reportsOf, leftOf, endReports}
 use Rattle.meaning.specs.Lent.{onFront}
-use Rattle.stepping.specs.Stepping.{startMemory, stepMemory, leftMemory}
+use Rattle.stepping.specs.Stepping.{Stands, startMemory, stepMemory, leftMemory}
 use Rattle.answers.specs.declared.Record.{Record}
 use Rattle.answers.specs.declared.Answer.{Answer}
 use Rattle.answers.specs.declared.Event.{Event}
-use Rattle.answers.specs.declared.Event.the-variants.{Open, Point, Close, End, Unknown}
+use Rattle.answers.specs.declared.Event.the-variants.{Open, Point, Close, CloseOf, End, Unknown}
 use Rattle.answers.specs.declared.Refusal.the-variants as why
 use Rattle.answers.specs.Record.{startedOf, noRecord, deeperOf, shallowerOf, oneMoreOf, withAlive, finishedOf}
 use Rattle.answers.specs.Bytes.{meaningOf}
@@ -35,17 +38,26 @@ stepRecord (stream.Open a) r = oneMoreOf (deeperOf r)
 stepRecord (stream.Point a) r = oneMoreOf r
 stepRecord stream.Close r = shallowerOf r
 
--- The abstract state that a record and its work memory stand for.
+-- The abstract state that a record and its work memory stand for: the rows, and the labels of the open levels.
 abbrev pub memoryOf : Record → List ℕ → Memory
-memoryOf r work = memoryIn (r .allowed) (r .depth) (r .alive) work
+memoryOf r work = memoryIn (r .allowed) (r .depth) (r .alive) (rowsPart (r .rows) (r .allowed) work)
 
--- An open, point or close: the rows step, decided rows are reported and go.
+abbrev pub labelsOf : Record → List ℕ → List ℕ
+labelsOf r work = openIn (labelsPart (r .rows) (r .allowed) work) (r .depth)
+
+-- Work memory that can be stepped, for a table of n states: its rows are rows, its labels' words those of the open levels.
+pub record Ready (n : ℕ) (r : Record) (work : List ℕ) : Type 0 where
+  pub size : length work ≡ workLength (r .rows) (r .allowed)
+  pub rows : Stands n (r .rows) (r .allowed) (r .depth) (r .alive) (rowsPart (r .rows) (r .allowed) work)
+  pub labels : LabelsIn (r .depth) (labelsPart (r .rows) (r .allowed) work)
+
+-- An open, point or close: the rows step, decided rows are reported and go, and the labels follow.
 abbrev pub stepped : Table → Record → List ℕ → stream.Event → After
 stepped t r work e =
     let m = stepMemory t (accsOf t) e (r .positions) (memoryOf r work) in
     record {
       next = withAlive (length (leftOf (m .alive))) (stepRecord e r);
-      work = workWords (r .rows) (r .allowed) (leftMemory m);
+      work = workWords (r .rows) (r .allowed) (leftMemory m) (openedBy (labelsOf r work) e);
       reports = reportsOf (m .alive);
     }
 
@@ -64,6 +76,7 @@ abbrev pub taking : Table → Record → List ℕ → Event → After
 taking t r work (Open a) = stepped t r work (stream.Open a)
 taking t r work (Point a) = stepped t r work (stream.Point a)
 taking t r work Close = stepped t r work stream.Close
+taking t r work (CloseOf a) = stepped t r work stream.Close
 taking t r work End = ended t r work
 taking t r work Unknown = record { next = r; work = work; reports = [] }
 
@@ -71,7 +84,7 @@ taking t r work Unknown = record { next = r; work = work; reports = [] }
 abbrev pub rowsLines : Record → After → List (Line Judged)
 rowsLines r after = refuses (ltb (r .rows) (after .next .alive)) why.Rows ∷ []
 
--- All refusals of an event, 1 to 15.
+-- All refusals of an event, in the order of checking.
 abbrev pub lines : List ℕ → Record → List ℕ → ℕ → Event → List (Line Judged)
 lines f r work reports e = judgedLines f r work reports e ++ rowsLines r (taking (tableOf f) r work e)
 
@@ -84,7 +97,7 @@ abbrev pub answerOf : Judged → Record → After → Answer
 answerOf Fine r after = takenOf (after .next) (length (after .reports))
 answerOf (Refused why) r after = refusedOf r why
 
----------------------------------------------------------------- 15, once 1 to 14 are passed
+---------------------------------------------------------------- 15, once all others are passed
 
 abbrev pub roomJudged : Record → After → Judged
 roomJudged r after = firstOf (rowsLines r after) Fine
@@ -125,7 +138,7 @@ startJudged f rows depth work = firstOf (startLines f rows depth (length work)) 
 
 abbrev pub startAfter : List ℕ → ℕ → ℕ → After
 startAfter f rows depth =
-    record { next = startedOf rows depth; work = workWords rows depth (startMemory (tableOf f)); reports = [] }
+    record { next = startedOf rows depth; work = workWords rows depth (startMemory (tableOf f)) []; reports = [] }
 
 abbrev pub startAnswer : List ℕ → ℕ → ℕ → List ℕ → Answer
 startAnswer f rows depth work = answerOf (startJudged f rows depth work) noRecord (startAfter f rows depth)

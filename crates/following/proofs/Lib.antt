@@ -9,3 +9,4 @@ pub mod Held
 pub mod Reported
 pub mod Ends
 pub mod Ordered
+pub mod Labels

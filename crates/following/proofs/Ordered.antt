@@ -1,25 +1,30 @@
--- The words of a memory: as many as work memory has, they stand for it, and they are in order. Assumes rows of one depth
--- whose states are states of the table, as many as there is room for, and for the order positions that rise.
-use mathlib.Core.Path.{_≡_, refl, sym, ap, _∙_}
+-- The words of a memory and of the labels of what is open: as many as work memory has, they stand for both, and they are in
+-- order. Assumes rows of one depth whose states are states of the table, as many as there is room for, as many labels, and
+-- for the order positions that rise and labels of the table.
+use mathlib.Core.Path.{_≡_, refl, sym, ap, _∙_, subst}
 use mathlib.Core.Bool.{Bool, true, false, cond, _&&_}
-use mathlib.Core.List.{List, [], _∷_, _++_}
-use Prim.Native.Nat.{ℕ, zero, suc, _+_, _-_, _*_, _/_, _<_, _≤_}
+use mathlib.Core.List.{List, [], _∷_, _++_, append-assoc}
+use Prim.Native.Nat.{ℕ, zero, suc, _+_, _-_, _*_, _/_, _%_, _<_, _≤_}
 use native.Mathlib.Omega.{arith}
-use native.Mathlib.Nat.{suc-mul, zero-mul, mul-le-mul-right, mod-lt}
+use native.Mathlib.Nat.{suc-mul, zero-mul, mul-le-mul-right, mod-lt, div-add-mod'}
 use native.Mathlib.Numerals.{add-one}
+use native.Mathlib.Decide.{ℕ-discrete}
 use borrow.Author.Tests.{leb-true, leb-false, eqb-true, eqb-false, ltb-true, ltb-false, lt-ltb, le-leb, eq-eqb}
 use lib.Dec.{ltb, leb, eqb}
-use lib.ListN.{length, getD, drop, replicate, length-map}
-use lib.Seq.{getD-take, getD-drop}
-use Rattle.places.specs.Places.{positionAt, stateAt, levelOf, partOf, rowLength, rowAt, workLength, rowOf}
-use Rattle.places.specs.Memory.{Held, Memory, levelsWords, allWords, rowsOf, workWords, heldIn, memoryIn, RowIn}
+use lib.ListN.{length, getD, drop, replicate, length-map, length-append, List·getD-append}
+use lib.Seq.{getD-take, getD-drop, getD-at, getD-append-add, take-at, drop-at}
+use Rattle.meaning.proofs.Rows.{AllBelow}
+use Rattle.meaning.proofs.Rows as below
+use Rattle.places.specs.Places.{positionAt, stateAt, levelOf, partOf, rowLength, rowAt, rowsLength, labelAt, labelLevel, workLength, rowsPart, labelsPart, rowOf}
+use Rattle.places.specs.Memory.{Held, Memory, levelsWords, allWords, rowsOf, rowsWords, openWords, labelsWords, workWords, heldIn, memoryIn, openIn, RowIn}
 use Rattle.places.proofs.Words.{padded-length, all-length as row-size}
 use Rattle.places.proofs.Sets.{below-length}
 use Rattle.places.proofs.Good.{AllGood, helds-first, all-length, later-rows, helds-back, rows-of}
 use Rattle.places.proofs.Good as good
+use Rattle.places.proofs.Labels.{open-words-length, labels-length, open-back}
 use Rattle.order.specs.declared.Shape.{Shape}
 use Rattle.order.specs.declared.Place.the-variants.{Fine}
-use Rattle.order.specs.Order.{positionRight, cellRight, wordRight, firstFrom, firstFault}
+use Rattle.order.specs.Order.{positionRight, cellRight, labelRight, labelsFrom, wordRight, firstFrom, firstFault}
 use Rattle.following.specs.Lists.{Rising}
 use Rattle.following.specs.Lists as lists
 use Rattle.following.specs.Following.{positionsOf}
@@ -53,7 +58,7 @@ rising-at lists.none r h = absurd (omega arith)
 rising-at (lists.over l m a) zero h = (l, m)
 rising-at (lists.over l m a) (suc r) h = rising-at a r (omega arith)
 
----------------------------------------------------------------- rows
+---------------------------------------------------------------- rows and labels
 
 module _ (n w d : ℕ) (short : w ≤ rowLength 40) (deep : rowLength d ≤ w) where
   -- Row r begins with its position.
@@ -74,6 +79,23 @@ level-zero n d c row r h =
     let xs : List ℕ = held .position ∷ levelsWords (held .row .newest ∷ held .row .below) in
     ap (λ ws. getD ws c 0) (r .same) ∙ past-words xs (length row - length xs) c (omega (arith, row-size held, below-length row d))
 
+-- The word of the newest level is 1 above its label, whatever stands after, and that of every level is.
+newest-word : (a : ℕ) (o rest : List ℕ) → getD (openWords (a ∷ o) ++ rest) (length o) 0 ≡ suc a
+newest-word a o rest =
+    ap (λ (ws : List ℕ). getD ws (length o) 0) (append-assoc (openWords o) (suc a ∷ []) rest)
+    ∙ getD-at (openWords o) (suc a) rest 0 (length o) (open-words-length o)
+
+label-word :
+    (k : ℕ) (o rest : List ℕ) → AllBelow k o → (l : ℕ) → l < length o →
+    (0 < getD (openWords o ++ rest) l 0) × (getD (openWords o ++ rest) l 0 ≤ k)
+label-word k [] rest below.none l h = absurd (omega arith)
+label-word k (a ∷ o) rest (below.more b all) l h =
+    elim (ℕ-discrete l (length o)) [
+      | yes e ↦ rw (e, newest-word a o rest) (omega arith, omega arith)
+      | no e ↦ subst (λ (ws : List ℕ). (0 < getD ws l 0) × (getD ws l 0 ≤ k)) (sym (append-assoc (openWords o) (suc a ∷ []) rest))
+          (label-word k o (suc a ∷ rest) all l (omega arith))
+    ]
+
 -- A memory is its rows.
 same-memory : (h : Held) (hs : List Held) (m : Memory) → h ∷ hs ≡ rowsOf m → record { run = h .row; alive = hs } ≡ m
 same-memory h hs m e =
@@ -83,11 +105,13 @@ same-memory h hs m e =
 
 ---------------------------------------------------------------- words in order
 
--- Rows whose positions are 0 and then ps, which rise, and zeros after them: every word is right.
+-- Rows whose positions are 0 and then ps, which rise, and zeros after them, and then labels' words that are right: every
+-- word is right.
 module _ (s : Shape) (words ps : List ℕ) (rises : Rising (s .positions) 0 ps) (long : s .used ≤ length ps + 1)
     (rows : (r : ℕ) → r < s .used → RowIn (s .states) (s .depth) (rowOf (rowLength (s .allowed)) r words))
     (first : (r : ℕ) → r < s .used → getD words (rowAt (s .allowed) r + positionAt) 0 ≡ getD (0 ∷ ps) r 0)
-    (rest : (i : ℕ) → rowAt (s .allowed) (s .used) ≤ i → getD words i 0 ≡ 0) where
+    (rest : (i : ℕ) → rowAt (s .allowed) (s .used) ≤ i → i < labelsFrom s → getD words i 0 ≡ 0)
+    (labels : (l : ℕ) → labelRight s (labelLevel l) (getD words (labelsFrom s + l) 0) ≡ true) where
   right-position : (r : ℕ) → r < s .used → positionRight s words r (getD words (rowAt (s .allowed) r + positionAt) 0) ≡ true
   right-position zero h = eq-eqb _ 0 (first 0 h)
   right-position (suc r) h =
@@ -98,9 +122,10 @@ module _ (s : Shape) (words ps : List ℕ) (rises : Rising (s .positions) 0 ps) 
   row-word r c h =
       getD-take (rowLength (s .allowed)) (drop (rowAt (s .allowed) r) words) c 0 h ∙ getD-drop (rowAt (s .allowed) r) words c 0
 
-  right-cell : (r c : ℕ) → c < rowLength (s .allowed) → cellRight s words r c ≡ true
-  right-cell r c h =
-      cond-true (leb (s .used) r) (λ e. eq-eqb _ 0 (rest (rowAt (s .allowed) r + c) (omega (arith, mul-le-mul-right (rowLength (s .allowed)) (leb-true (s .used) r e)))))
+  right-cell : (r c : ℕ) → c < rowLength (s .allowed) → rowAt (s .allowed) r + c < labelsFrom s → cellRight s words r c ≡ true
+  right-cell r c h inside =
+      cond-true (leb (s .used) r)
+      (λ e. eq-eqb _ 0 (rest (rowAt (s .allowed) r + c) (omega (arith, mul-le-mul-right (rowLength (s .allowed)) (leb-true (s .used) r e))) inside))
       (λ e.
       let row = rows r (leb-false _ _ e) in
       cond-true (eqb c positionAt) (λ f. rw (eqb-true c 0 f) (right-position r (leb-false _ _ e)))
@@ -113,44 +138,98 @@ module _ (s : Shape) (words ps : List ℕ) (rises : Rising (s .positions) 0 ps) 
       lt-ltb _ _ (rw (at-state, row-word r c h) at (row .states (levelOf c) (ltb-false _ _ g))))
       (λ i. refl))))
 
+  right-word : (i : ℕ) → wordRight s words i ≡ true
+  right-word i =
+      let w : ℕ = rowLength (s .allowed) in
+      cond-true (ltb i (labelsFrom s))
+      (λ e. right-cell (i / w) (i % w) (mod-lt i (omega arith)) (rw (div-add-mod' i w) (ltb-true i (labelsFrom s) e)))
+      (λ e.
+      let at : labelsFrom s + (i - labelsFrom s) ≡ i = omega (arith, ltb-false i (labelsFrom s) e) in
+      ap (λ (j : ℕ). labelRight s (labelLevel (i - labelsFrom s)) (getD words j 0)) (sym at) ∙ labels (i - labelsFrom s))
+
   words-fine : firstFault s words ≡ Fine
   unfolding firstFault
-  words-fine = all-fine (wordRight s words) (λ i. right-cell (i / rowLength (s .allowed)) _ (mod-lt i (omega arith))) (length words) 0
+  words-fine = all-fine (wordRight s words) right-word (length words) 0
 
 ---------------------------------------------------------------- a whole memory
 
 module _ (n rows depth d : ℕ) (m : Memory) (small : depth ≤ 40) (deep : d ≤ depth) (fits : length (m .alive) ≤ rows) (all : AllGood n d (rowsOf m)) where
-  rows-length : length (allWords (rowLength depth) (rowsOf m)) ≡ rowAt depth (length (m .alive) + 1)
-  rows-length = rw (add-one (length (m .alive))) (all-length n (rowLength depth) d (omega arith) (omega arith) (rowsOf m) all)
+  used-length : length (allWords (rowLength depth) (rowsOf m)) ≡ rowAt depth (length (m .alive) + 1)
+  used-length = rw (add-one (length (m .alive))) (all-length n (rowLength depth) d (omega arith) (omega arith) (rowsOf m) all)
 
-  -- As long as work memory is.
-  pub work-length : length (workWords rows depth m) ≡ workLength rows depth
-  work-length =
-      padded-length (workLength rows depth) (allWords (rowLength depth) (rowsOf m)) (rw rows-length (mul-le-mul-right (rowLength depth) (omega arith)))
+  rows-length : length (rowsWords rows depth m) ≡ rowsLength rows depth
+  rows-length =
+      padded-length (rowsLength rows depth) (allWords (rowLength depth) (rowsOf m)) (rw used-length (mul-le-mul-right (rowLength depth) (omega arith)))
 
-  -- The words of a memory stand for it.
-  pub memory-back : memoryIn depth d (length (m .alive)) (workWords rows depth m) ≡ m
-  memory-back =
+  rows-back : memoryIn depth d (length (m .alive)) (rowsWords rows depth m) ≡ m
+  rows-back =
       let w = rowLength depth in
-      let rest : List ℕ = replicate (workLength rows depth - length (allWords w (rowsOf m))) 0 in
+      let rest : List ℕ = replicate (rowsLength rows depth - length (allWords w (rowsOf m))) 0 in
       same-memory _ _ m
-      (sym (helds-first w d (length (m .alive)) (workWords rows depth m)) ∙ helds-back n w d (omega arith) (omega arith) (rowsOf m) rest all)
+      (sym (helds-first w d (length (m .alive)) (rowsWords rows depth m)) ∙ helds-back n w d (omega arith) (omega arith) (rowsOf m) rest all)
 
--- The words of a memory whose states are states of the table and whose positions rise are in order.
-pub in-order : (n rows depth d p : ℕ) (m : Memory) → depth ≤ 40 → d ≤ depth → length (m .alive) ≤ rows → AllGood n d (rowsOf m) →
-    Rising p 0 (positionsOf (m .alive)) →
-    firstFault (record { rows = rows + 1; allowed = depth; used = length (m .alive) + 1; depth = d; states = n; positions = p }) (workWords rows depth m) ≡ Fine
-in-order n rows depth d p m small deep fits all rises =
+  module _ (o : List ℕ) where
+    -- As long as work memory is.
+    pub work-length : length o ≤ depth → length (workWords rows depth m o) ≡ workLength rows depth
+    work-length l = length-append (rowsWords rows depth m) (labelsWords depth o) ∙ omega (arith, rows-length, labels-length depth o l)
+
+    -- The words of a memory and of labels stand for them.
+    pub memory-back : memoryIn depth d (length (m .alive)) (rowsPart rows depth (workWords rows depth m o)) ≡ m
+    memory-back =
+        ap (memoryIn depth d (length (m .alive))) (take-at (rowsWords rows depth m) (labelsWords depth o) (rowsLength rows depth) rows-length)
+        ∙ rows-back
+
+    labels-then : labelsPart rows depth (workWords rows depth m o) ≡ labelsWords depth o
+    labels-then = drop-at (rowsWords rows depth m) (labelsWords depth o) (rowsLength rows depth) rows-length
+
+    pub labels-back : openIn (labelsPart rows depth (workWords rows depth m o)) (length o) ≡ o
+    labels-back = ap (λ (ws : List ℕ). openIn ws (length o)) labels-then ∙ open-back o (replicate (depth - length (openWords o)) 0)
+
+  -- The newest level's word.
+  pub newest-back : (a : ℕ) (o : List ℕ) → getD (labelsPart rows depth (workWords rows depth m (a ∷ o))) (labelAt (length (a ∷ o))) 0 ≡ suc a
+  newest-back a o =
+      let at : labelAt (length (a ∷ o)) ≡ length o = omega arith in
+      ap (λ (ws : List ℕ). getD ws (labelAt (length (a ∷ o))) 0) (labels-then (a ∷ o))
+      ∙ ap (λ (i : ℕ). getD (labelsWords depth (a ∷ o)) i 0) at
+      ∙ newest-word a o (replicate (depth - length (openWords (a ∷ o))) 0)
+
+-- The words of a memory whose states are states of the table and whose positions rise, and of labels of the table, as many as
+-- there are levels, are in order.
+pub in-order : (n rows depth d p k : ℕ) (m : Memory) (o : List ℕ) → depth ≤ 40 → d ≤ depth → length (m .alive) ≤ rows → AllGood n d (rowsOf m) →
+    Rising p 0 (positionsOf (m .alive)) → length o ≡ d → AllBelow k o →
+    firstFault (record { rows = rows + 1; allowed = depth; used = length (m .alive) + 1; depth = d; states = n; positions = p; labels = k }) (workWords rows depth m o) ≡ Fine
+in-order n rows depth d p k m o small deep fits all rises open-are labelled =
     let w : ℕ = rowLength depth in
     let xs : List ℕ = allWords w (rowsOf m) in
-    let k : ℕ = workLength rows depth - length xs in
-    words-fine _ (workWords rows depth m) (positionsOf (m .alive)) rises (omega (arith, length-map (m .alive) (λ (h : Held). h .position)))
-    (λ r h. rows-of n w d (omega arith) (omega arith) (rowsOf m) (replicate k 0) all .each r (omega arith))
-    (λ r h. position-at n w d (omega arith) (omega arith) (rowsOf m) (replicate k 0) all r (omega arith))
-    (λ i h. past-words xs k i (omega (arith, rows-length n rows depth d m small deep fits all)))
+    let zeros : List ℕ = replicate (rowsLength rows depth - length xs) 0 in
+    let front : List ℕ = rowsWords rows depth m in
+    let after : List ℕ = labelsWords depth o in
+    let long : length front ≡ rowsLength rows depth = rows-length n rows depth d m small deep fits all in
+    let rows-then : workWords rows depth m o ≡ xs ++ (zeros ++ after) = append-assoc xs zeros after in
+    let s : Shape = record { rows = rows + 1; allowed = depth; used = length (m .alive) + 1; depth = d; states = n; positions = p; labels = k } in
+    words-fine s (workWords rows depth m o) (positionsOf (m .alive)) rises (omega (arith, length-map (m .alive) (λ (h : Held). h .position)))
+    (λ r h.
+    subst (λ (ws : List ℕ). RowIn n d (rowOf w r ws)) (sym rows-then)
+    (rows-of n w d (omega arith) (omega arith) (rowsOf m) (zeros ++ after) all .each r (omega arith)))
+    (λ r h.
+    ap (λ (ws : List ℕ). getD ws (rowAt depth r + positionAt) 0) rows-then
+    ∙ position-at n w d (omega arith) (omega arith) (rowsOf m) (zeros ++ after) all r (omega arith))
+    (λ i h l.
+    List·getD-append front after 0 i (omega (arith, long))
+    ∙ past-words xs (rowsLength rows depth - length xs) i (omega (arith, used-length n rows depth d m small deep fits all)))
+    (λ l.
+    ap (labelRight s (labelLevel l)) (ap (λ (j : ℕ). getD (front ++ after) (j + l) 0) (sym long) ∙ getD-append-add front after l 0)
+    ∙ cond-true (leb (labelLevel l) d)
+    (λ e.
+    let x = label-word k o (replicate (depth - length (openWords o)) 0) labelled l (omega (arith, leb-true (labelLevel l) d e)) in
+    both (lt-ltb _ _ (x .0)) (le-leb _ _ (x .1)))
+    (λ e. eq-eqb _ 0 (past-words (openWords o) (depth - length (openWords o)) l (omega (arith, leb-false (labelLevel l) d e, open-words-length o)))))
 
--- And so are zeros, where no row is in use.
-pub zeros-in-order : (n rows depth d p k : ℕ) →
-    firstFault (record { rows = rows + 1; allowed = depth; used = 0; depth = d; states = n; positions = p }) (replicate k 0) ≡ Fine
-zeros-in-order n rows depth d p k =
-    words-fine _ (replicate k 0) [] lists.none (omega arith) (λ r h. absurd (omega arith)) (λ r h. absurd (omega arith)) (λ i h. past-words [] k i (omega arith))
+-- And so are zeros, where no row is in use and no level is open.
+pub zeros-in-order : (n rows depth p k i : ℕ) →
+    firstFault (record { rows = rows + 1; allowed = depth; used = 0; depth = 0; states = n; positions = p; labels = k }) (replicate i 0) ≡ Fine
+zeros-in-order n rows depth p k i =
+    let zeros : List ℕ = replicate i 0 in
+    let zero-at : (j : ℕ) → getD zeros j 0 ≡ 0 = λ j. past-words [] i j (omega arith) in
+    words-fine _ zeros [] lists.none (omega arith) (λ r h. absurd (omega arith)) (λ r h. absurd (omega arith)) (λ j h l. zero-at j)
+    (λ l. cond-true (leb (labelLevel l) 0) (λ e. absurd (omega (arith, leb-true (labelLevel l) 0 e))) (λ e. eq-eqb _ 0 (zero-at _)))

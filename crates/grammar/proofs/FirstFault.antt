@@ -23,7 +23,7 @@ use Rattle.grammar.specs.Reading.{Next, extend, Place, fresh, between, c
 use Rattle.grammar.specs.Faults.{Begins, Good, Whole, Faulty}
 use Rattle.grammar.proofs.Feeding.{broke, not-at, feed-break, roomed-fits, roomed-short, roomed-stop, Broken, where-broken}
 use Rattle.grammar.proofs.Tagging.{allBut, all-but-text}
-use Rattle.grammar.proofs.ReadingTags.{placed, holds-append, labelled, nested-judged}
+use Rattle.grammar.proofs.ReadingTags.{placed, holds-append, label-judged, nested-judged}
 use Rattle.grammar.proofs.Lexing.{no-begins, whole-extends}
 use Rattle.grammar.proofs.Verdicts.{Verdict, verdict}
 use Rattle.grammar.proofs.Refusing.{byte-more, good-step, read-good, good-read}
@@ -110,10 +110,10 @@ faulty-stops {ns} (Faulty.unknown {q = q} {t = t} b v g w n) =
     (rw (whole-extends q b t (g .begun) w, le-ltb (placeOf (nameOf t) ns) (length ns) (omega arith)))
 faulty-stops {ns} (Faulty.closing {o = o} {x = x} {q = q} {a = a} b v g w l n) =
     stops-itself g b v fault.Closing
-    (rw (whole-extends q b (Tag.closing x) (g .begun) w, labelled ns (placed q o) (Tag.closing x) l) (closes-another (placed q o) a o n))
+    (rw (whole-extends q b (Tag.closing x) (g .begun) w, label-judged ns (placed q o) (Tag.closing x) l) (closes-another (placed q o) a o n))
 faulty-stops {ns} (Faulty.deep {o = o} {x = x} {q = q} {a = a} b v g w l d) =
     stops-itself g b v fault.Deep
-    (rw (whole-extends q b (Tag.opening x) (g .begun) w, labelled ns (placed q o) (Tag.opening x) l, le-ltb (length o) 40 d))
+    (rw (whole-extends q b (Tag.opening x) (g .begun) w, label-judged ns (placed q o) (Tag.opening x) l, le-ltb (length o) 40 d))
 faulty-stops {ns} {room} (Faulty.short {o = o} {o′ = o′} {es = es} {w = out} {q = q} {t = t} b v g w n e) =
     let steps : readStep ns (placed q o) b ≡ stepped (between o′) out = rw (whole-extends q b t (g .begun) w) (nested-judged ns q n) in
     let one : length (readStep ns (placed q o) b .gives) ≡ 1 = rw steps (one-event n) in

@@ -11,9 +11,10 @@ pub mod Blanks
 pub mod Names
 pub mod GoodNames
 pub mod Pieces
-pub mod Writer
-pub mod Nesting
+pub mod Labelling
 pub mod Wrote
+pub mod Nesting
+pub mod Writer
 pub mod Streams
 pub mod WriterAnswers
 pub mod RoundTrips

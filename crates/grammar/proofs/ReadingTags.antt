@@ -41,22 +41,22 @@ nested-first (Nested.opening {o} {o′} {es} {x} {ts} {a} l d n) =
 nested-first (Nested.empty {o} {o′} {es} {x} {ts} {a} l n) =
     record { gives = (32 + a) ∷ []; rest = es; between = o; parts = refl; first = Nested.empty l Nested.nothing; others = n }
 nested-first (Nested.closing {o} {o′} {es} {x} {ts} {a} l n) =
-    record { gives = 64 ∷ []; rest = es; between = o; parts = refl; first = Nested.closing l Nested.nothing; others = n }
+    record { gives = (66 + a) ∷ []; rest = es; between = o; parts = refl; first = Nested.closing l Nested.nothing; others = n }
 
 -- The place after a text of tags that leave o open, and then q.
 abbrev pub placed : Begun → List ℕ → Place
 placed q o = record { begun = q; levels = o }
 
 module _ (ns : List (List ℕ)) where
-  pub labelled : {x : List ℕ} {a : ℕ} (p : Place) (t : Tag) → Labels ns x a → judged ns p x t ≡ judge p a t
-  labelled {a = a} p t l = rw (l .place, lt-ltb a (length ns) (l .known))
+  pub label-judged : {x : List ℕ} {a : ℕ} (p : Place) (t : Tag) → Labels ns x a → judged ns p x t ≡ judge p a t
+  label-judged {a = a} p t l = rw (l .place, lt-ltb a (length ns) (l .known))
 
   -- The nesting of one tag is what the reader judges.
   pub nested-judged : {o o′ w : List ℕ} {t : Tag} (q : Begun) → Nested ns o (t ∷ []) w o′
       → judged ns (placed q o) (nameOf t) t ≡ stepped (between o′) w
-  nested-judged q (Nested.opening {o = o} {x = x} l d Nested.nothing) = labelled (placed q o) (Tag.opening x) l ∙ rw (lt-ltb (length o) 40 d)
-  nested-judged q (Nested.empty {o = o} {x = x} l Nested.nothing) = labelled (placed q o) (Tag.empty x) l
-  nested-judged q (Nested.closing {o = o} {x = x} {a = a} l Nested.nothing) = labelled (placed q (a ∷ o)) (Tag.closing x) l ∙ rw (eq-eqb a a refl)
+  nested-judged q (Nested.opening {o = o} {x = x} l d Nested.nothing) = label-judged (placed q o) (Tag.opening x) l ∙ rw (lt-ltb (length o) 40 d)
+  nested-judged q (Nested.empty {o = o} {x = x} l Nested.nothing) = label-judged (placed q o) (Tag.empty x) l
+  nested-judged q (Nested.closing {o = o} {x = x} {a = a} l Nested.nothing) = label-judged (placed q (a ∷ o)) (Tag.closing x) l ∙ rw (eq-eqb a a refl)
 
   moves : (o : List ℕ) (q q′ : Begun) (b : ℕ) → extend q b ≡ Next.more q′ → readStep ns (placed q o) b ≡ stepped (placed q′ o) []
   moves o q q′ b e = rw e

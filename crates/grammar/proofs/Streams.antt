@@ -3,55 +3,50 @@
 use mathlib.Core.Path.{_≡_, refl, sym, ap, subst, _∙_}
 use mathlib.Core.Bool.{true, false}
 use mathlib.Core.List.{List, [], _∷_, _++_, append-assoc, append-nil}
-use Prim.Native.Nat.{ℕ, zero, suc, _+_, _≤_}
+use Prim.Native.Nat.{ℕ, _+_, _≤_}
 use native.Mathlib.Omega.{arith}
 use lib.ListN.{length}
+use Rattle.meaning.proofs.Rows.{AllBelow}
 use Rattle.meaning.proofs.Tests.{both-true}
 use Rattle.grammar.specs.declared.Stop.{Stop}
 use Rattle.grammar.specs.declared.Stop.the-variants.{Not, At}
 use Rattle.grammar.specs.Tags.{Tag, tagsText, Nested}
-use Rattle.grammar.specs.Streams.{Opens, Stream, GoesOn, Stuck}
+use Rattle.grammar.specs.Streams.{Opens, Stream, GoesOn, Stuck, labelled}
 use Rattle.grammar.specs.Feeding.{goesOn, Fed}
 use Rattle.grammar.specs.Writing.{Written, unwritten, writeStep, writeFed, wholeStream}
 use Rattle.grammar.proofs.Feeding.{went, feed-break, where-broken}
 use Rattle.grammar.proofs.Names.{GoodList}
-use Rattle.grammar.proofs.Nesting.{Below, nested-opens, opens-tagged}
+use Rattle.grammar.proofs.Nesting.{opens-tagged}
 use Rattle.grammar.proofs.Pieces.{true-false, untrue, feed-taken, feed-front, feed-stops-at}
-use Rattle.grammar.proofs.Writer.{finished, write-whole}
-use Rattle.grammar.proofs.Wrote.{Wrote, taken-wrote}
+use Rattle.grammar.proofs.Writer.{write-whole}
+use Rattle.grammar.proofs.Wrote.{finished, opens-join, Wrote, taken-wrote}
 
--- Events after events.
-pub opens-join : {k d e f : ℕ} {w v : List ℕ} → Opens k d w e → Opens k e v f → Opens k d (w ++ v) f
-opens-join Opens.nothing r = r
-opens-join (Opens.opens h d o) r = Opens.opens h d (opens-join o r)
-opens-join (Opens.points h o) r = Opens.points h (opens-join o r)
-opens-join (Opens.closes o) r = Opens.closes (opens-join o r)
-
--- Never are more than 40 levels open.
-pub opens-at-most : {k d e : ℕ} {w : List ℕ} → Opens k d w e → d ≤ 40 → e ≤ 40
+-- Never are more than 40 elements open.
+pub opens-at-most : {k : ℕ} {o o′ w : List ℕ} → Opens k o w o′ → length o ≤ 40 → length o′ ≤ 40
 opens-at-most Opens.nothing h = h
-opens-at-most (Opens.opens l d o) h = opens-at-most o d
-opens-at-most (Opens.points l o) h = opens-at-most o h
-opens-at-most (Opens.closes o) h = opens-at-most o (omega arith)
+opens-at-most (Opens.opens l d n) h = opens-at-most n d
+opens-at-most (Opens.points l n) h = opens-at-most n h
+opens-at-most (Opens.closes n) h = opens-at-most n (omega arith)
+opens-at-most (Opens.closes-its n) h = opens-at-most n (omega arith)
 
--- As many bytes 64 as levels are open close them.
-abbrev closeAll : ℕ → List ℕ
-closeAll zero = []
-closeAll (suc d) = 64 ∷ closeAll d
+-- As many bytes 64 as elements are open close them.
+abbrev closeAll : List ℕ → List ℕ
+closeAll [] = []
+closeAll (a ∷ o) = 64 ∷ closeAll o
 
-closes-all : (k d : ℕ) → Opens k d (closeAll d) 0
-closes-all k zero = Opens.nothing
-closes-all k (suc d) = Opens.closes (closes-all k d)
+closes-all : (k : ℕ) (o : List ℕ) → Opens k o (closeAll o) []
+closes-all k [] = Opens.nothing
+closes-all k (a ∷ o) = Opens.closes (closes-all k o)
 
 -- From events that close only what is open, a whole stream goes on.
-pub opens-go-on : {k d : ℕ} {w : List ℕ} → Opens k 0 w d → GoesOn k w
-opens-go-on {k} {d} {w} o =
+pub opens-go-on : {k : ℕ} {o w : List ℕ} → Opens k [] w o → GoesOn k w
+opens-go-on {k} {o} {w} n =
     record {
-      rest = closeAll d ++ (65 ∷ []);
+      rest = closeAll o ++ (65 ∷ []);
       whole = record {
-        events = w ++ closeAll d;
-        opens = opens-join o (closes-all k d);
-        ends = sym (append-assoc w (closeAll d) (65 ∷ []));
+        events = w ++ closeAll o;
+        opens = opens-join n (closes-all k o);
+        ends = sym (append-assoc w (closeAll o) (65 ∷ []));
       };
     }
 
@@ -59,34 +54,22 @@ opens-go-on {k} {d} {w} o =
 pub stream-goes-on : {k : ℕ} {w : List ℕ} → Stream k w → GoesOn k w
 stream-goes-on {w = w} s = record { rest = []; whole = rw append-nil s }
 
--- The tags of a whole stream.
+-- The tags of a whole stream, which give it with its closes labelled.
 pub record Tags (ns : List (List ℕ)) (w : List ℕ) : Type 0 where
   pub tags : List Tag
   pub events : List ℕ
-  pub nested : Nested ns [] tags events []
+  pub nested : Nested ns [] tags (labelled [] events) []
   pub ends : w ≡ events ++ (65 ∷ [])
-
-none-open : (o : List ℕ) → length o ≡ 0 → o ≡ []
-none-open [] q = refl
-none-open (a ∷ o) q = absurd (omega arith)
-
-pub tags-stream : {ns : List (List ℕ)} {w : List ℕ} → Tags ns w → Stream (length ns) w
-tags-stream t = record { events = t .events; opens = nested-opens (t .nested); ends = t .ends }
 
 module _ (ns : List (List ℕ)) (good : GoodList ns) (w : List ℕ) where
   pub stream-tags : Stream (length ns) w → Tags ns w
   stream-tags s =
-      let t = opens-tagged ns good (s .opens) [] refl Below.none in
-      record {
-        tags = t .tags;
-        events = s .events;
-        ends = s .ends;
-        nested = rw (none-open (t .levels) (t .depth)) at (t .nested);
-      }
+      let t = opens-tagged ns good (s .opens) AllBelow.none in
+      record { tags = t .tags; events = s .events; nested = t .nested; ends = s .ends }
 
   -- A whole stream is written as its tags.
   pub tags-written : (t : Tags ns w) → writeFed ns w ≡ went (tagsText (t .tags)) (length (t .events) + 1) finished
-  tags-written t = ap (writeFed ns) (t .ends) ∙ write-whole ns good (t .nested)
+  tags-written t = ap (writeFed ns) (t .ends) ∙ write-whole ns good (t .events) (t .nested)
 
   pub stream-whole : Stream (length ns) w → wholeStream (writeFed ns w) ≡ true
   stream-whole s = rw (tags-written (stream-tags s))
@@ -94,19 +77,18 @@ module _ (ns : List (List ℕ)) (good : GoodList ns) (w : List ℕ) where
   pub whole-stream : wholeStream (writeFed ns w) ≡ true → Stream (length ns) w
   whole-stream e =
       let p = both-true (goesOn (writeFed ns w .stops)) (writeFed ns w .state .ended) e in
-      go (taken-wrote ns good w [] Below.none (p .0)) (p .1)
+      go (taken-wrote ns w [] (p .0)) (p .1)
     where
-      go : Wrote ns [] w (writeFed ns w) → writeFed ns w .state .ended ≡ true → Stream (length ns) w
-      go (Wrote.tags n q) f = absurd (true-false f (rw q))
-      go (Wrote.whole {ts = ts} {es′ = es} n z q) f = tags-stream (record { tags = ts; events = es; nested = n; ends = z })
+      go : Wrote (length ns) [] w (writeFed ns w) → writeFed ns w .state .ended ≡ true → Stream (length ns) w
+      go (Wrote.events n q) f = absurd (true-false f (rw q))
+      go (Wrote.whole {es′ = es} n z q) f = record { events = es; opens = n; ends = z }
 
   pub went-goes-on : goesOn (writeFed ns w .stops) ≡ true → GoesOn (length ns) w
-  went-goes-on e = go (taken-wrote ns good w [] Below.none e)
+  went-goes-on e = go (taken-wrote ns w [] e)
     where
-      go : Wrote ns [] w (writeFed ns w) → GoesOn (length ns) w
-      go (Wrote.tags n q) = opens-go-on (nested-opens n)
-      go (Wrote.whole {ts = ts} {es′ = es} n z q) =
-          stream-goes-on (tags-stream (record { tags = ts; events = es; nested = n; ends = z }))
+      go : Wrote (length ns) [] w (writeFed ns w) → GoesOn (length ns) w
+      go (Wrote.events n q) = opens-go-on n
+      go (Wrote.whole {es′ = es} n z q) = stream-goes-on (record { events = es; opens = n; ends = z })
 
 pub goes-on-went : (ns : List (List ℕ)) (good : GoodList ns) (w : List ℕ) → GoesOn (length ns) w → goesOn (writeFed ns w .stops) ≡ true
 goes-on-went ns good w g =

@@ -1,4 +1,4 @@
--- Reading tagged text (02, K1): byte by byte, up to the first at fault. Definitions only.
+-- Reading tagged text (02, K1 and K2): byte by byte, up to the first at fault. Definitions only.
 use mathlib.Core.Bool.{Bool, true, false, cond, _&&_}
 use mathlib.Core.List.{List, [], _∷_, _++_}
 use Prim.Native.Nat.{ℕ, suc, _+_}
@@ -47,10 +47,10 @@ fresh = record { begun = Begun.nothing; levels = [] }
 abbrev pub between : List ℕ → Place
 between o = record { begun = Begun.nothing; levels = o }
 
--- A closing tag of label a.
+-- A closing tag of label a gives the close that names it.
 abbrev pub close : Place → ℕ → List ℕ → Step Place
 close p a [] = stopped p fault.Closing
-close p a (c ∷ o) = cond (eqb a c) (stepped (between o) (64 ∷ [])) (stopped p fault.Closing)
+close p a (c ∷ o) = cond (eqb a c) (stepped (between o) ((66 + a) ∷ [])) (stopped p fault.Closing)
 
 -- A tag judged at its ">", by its label.
 abbrev pub judge : Place → ℕ → Tag → Step Place

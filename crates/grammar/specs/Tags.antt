@@ -1,4 +1,4 @@
--- The grammar of tagged text (02, K1): what a text holds, and how its tags are nested. Definitions only; none speaks of
+-- The grammar of tagged text (02, K1 and K2): what a text holds, and how its tags are nested. Definitions only; none speaks of
 -- how a text is read.
 use mathlib.Core.Path.{_≡_}
 use mathlib.Core.Bool.{Bool, true}
@@ -42,7 +42,7 @@ pub record Labels (ns : List (List ℕ)) (x : List ℕ) (a : ℕ) : Type 0 where
   pub known : a < length ns
 
 -- Tags that lead from the open elements o to others, both told by their labels, newest first, and the events that they
--- give. A closing tag has the name of the newest; an opening one is none of more than 40.
+-- give. A closing tag has the name of the newest, and its event names the label; an opening one is none of more than 40.
 pub data Nested (ns : List (List ℕ)) : List ℕ → List Tag → List ℕ → List ℕ → Type 0 where
   nothing : {o : List ℕ} → Nested ns o [] [] o
   opening : {o o′ es x : List ℕ} {ts : List Tag} {a : ℕ}
@@ -50,7 +50,7 @@ pub data Nested (ns : List (List ℕ)) : List ℕ → List Tag → List ℕ → 
   empty : {o o′ es x : List ℕ} {ts : List Tag} {a : ℕ}
       → Labels ns x a → Nested ns o ts es o′ → Nested ns o (Tag.empty x ∷ ts) ((32 + a) ∷ es) o′
   closing : {o o′ es x : List ℕ} {ts : List Tag} {a : ℕ}
-      → Labels ns x a → Nested ns o ts es o′ → Nested ns (a ∷ o) (Tag.closing x ∷ ts) (64 ∷ es) o′
+      → Labels ns x a → Nested ns o ts es o′ → Nested ns (a ∷ o) (Tag.closing x ∷ ts) ((66 + a) ∷ es) o′
 
 -- The text s gives the stream w: after its tags nothing is open, and its end gives byte 65.
 pub record Text (ns : List (List ℕ)) (s w : List ℕ) : Type 0 where

@@ -1,4 +1,4 @@
--- Writing a stream as tagged text without blanks (02, K1): event by event, up to the first at fault. Definitions only.
+-- Writing a stream as tagged text without blanks (02, K1 and K2): event by event, up to the first at fault. Definitions only.
 use mathlib.Core.Bool.{Bool, true, false, not, cond, _&&_}
 use mathlib.Core.List.{List, [], _∷_}
 use Prim.Native.Nat.{ℕ}
@@ -33,6 +33,11 @@ abbrev pub closeTag : List (List ℕ) → Written → List ℕ → Step Written
 closeTag ns w [] = stopped w fault.Byte
 closeTag ns w (a ∷ o) = stepped (afterTag o) (tagText (Tag.closing (nameAt ns a)))
 
+-- A close that names a label: the newest's.
+abbrev pub closeOfTag : List (List ℕ) → Written → ℕ → List ℕ → Step Written
+closeOfTag ns w a [] = stopped w fault.Byte
+closeOfTag ns w a (c ∷ o) = cond (eqb a c) (closeTag ns w (c ∷ o)) (stopped w fault.Byte)
+
 -- An event, where byte 65 was not read yet: its tag, or its fault where no whole stream of depth at most 40 goes on.
 abbrev pub writeEvent : List (List ℕ) → Written → Event → Step Written
 writeEvent ns w (event.Open a) =
@@ -42,6 +47,7 @@ writeEvent ns w (event.Open a) =
 writeEvent ns w (event.Point a) =
     cond (ltb a (length ns)) (stepped (afterTag (w .levels)) (tagText (Tag.empty (nameAt ns a)))) (stopped w fault.Byte)
 writeEvent ns w event.Close = closeTag ns w (w .levels)
+writeEvent ns w (event.CloseOf a) = closeOfTag ns w a (w .levels)
 writeEvent ns w event.End =
     cond (eqb (length (w .levels)) 0) (stepped (record { levels = w .levels; ended = true }) []) (stopped w fault.Byte)
 writeEvent ns w event.Unknown = stopped w fault.Byte

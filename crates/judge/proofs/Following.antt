@@ -1,7 +1,7 @@
 -- How groups of lines follow one another: the table's, the call's, then the event's. Assumes nothing.
 use mathlib.Core.Bool.{Bool, true, false, not, cond, _||_}
 use mathlib.Core.List.{List, [], _∷_, _++_}
-use mathlib.Core.Path.{_≡_, refl, sym, ap, _∙_}
+use mathlib.Core.Path.{_≡_, refl, sym, ap, ap₂, _∙_}
 use Prim.Native.Nat.{ℕ, _+_}
 use lib.Dec.{ltb}
 use lib.ListN.{length}
@@ -18,7 +18,7 @@ use Rattle.answers.specs.declared.Event.{Event}
 use Rattle.answers.specs.declared.Refusal as answers
 use Rattle.answers.specs.declared.Refusal.the-variants as why
 use Rattle.judge.specs.Judging.{refuses, tableLines, callLines, eventLines, judgedLines, startLines, sizesRight}
-use Rattle.judge.specs.Judging.{isFault, faultAt, faultOf}
+use Rattle.judge.specs.Judging.{isFault, faultAt, faultOf, newestWord}
 use Rattle.judge.specs.declared.Judged.{Judged}
 use Rattle.judge.specs.declared.Judged.the-variants as judged
 
@@ -64,10 +64,10 @@ table-first f o = go (isShort f) (headerRight f) (contentsRight f) (lengthRight 
 
 -- The call's lines before others.
 call-first :
-    (n : ℕ) (r : Record) (work : List ℕ) (reports : ℕ) (o : Judged) →
-    firstOf (callLines n r work reports) o ≡ after (firstOf (callLines n r work reports) judged.Fine) o
-call-first n r work reports o =
-    let place = faultOf r n work in
+    (n k : ℕ) (r : Record) (work : List ℕ) (reports : ℕ) (o : Judged) →
+    firstOf (callLines n k r work reports) o ≡ after (firstOf (callLines n k r work reports) judged.Fine) o
+call-first n k r work reports o =
+    let place = faultOf r n k work in
     go (not (sizesRight (r .rows) (r .allowed) (length work)) || ltb reports (r .rows + 1)) (isFault place) (r .finished) (faultAt place)
   where
     go :
@@ -98,29 +98,31 @@ table-passes f rest n k e =
 module _ (f : List ℕ) (r : Record) (work : List ℕ) (reports : ℕ) (event : Event) (n k : ℕ) (read : readingOf f ≡ reading.Taken n k) where
   -- The call's judgement, then the event's.
   both-judged :
-      (call next : Judged) → call ≡ firstOf (callLines n r work reports) judged.Fine → next ≡ firstOf (eventLines k r event) judged.Fine →
+      (call next : Judged) → call ≡ firstOf (callLines n k r work reports) judged.Fine → next ≡ firstOf (eventLines k r (newestWord r work) event) judged.Fine →
       firstOf (judgedLines f r work reports event) judged.Fine ≡ after call next
   both-judged call next h g =
       let s = taken-is-sound f n k read in
-      let hn : call ≡ firstOf (callLines (statesIn f) r work reports) judged.Fine = h ∙ ap (λ (x : ℕ). firstOf (callLines x r work reports) judged.Fine) (s .1) in
-      let gk : next ≡ firstOf (eventLines (labelsIn f) r event) judged.Fine = g ∙ ap (λ (x : ℕ). firstOf (eventLines x r event) judged.Fine) (s .2) in
-      table-passes f (callLines (statesIn f) r work reports ++ eventLines (labelsIn f) r event) n k read
-      ∙ first-append (callLines (statesIn f) r work reports) (eventLines (labelsIn f) r event) judged.Fine
-      ∙ call-first (statesIn f) r work reports (firstOf (eventLines (labelsIn f) r event) judged.Fine)
+      let x : ℕ = newestWord r work in
+      let hn : call ≡ firstOf (callLines (statesIn f) (labelsIn f) r work reports) judged.Fine =
+      h ∙ ap₂ (λ (y z : ℕ). firstOf (callLines y z r work reports) judged.Fine) (s .1) (s .2) in
+      let gk : next ≡ firstOf (eventLines (labelsIn f) r x event) judged.Fine = g ∙ ap (λ (y : ℕ). firstOf (eventLines y r x event) judged.Fine) (s .2) in
+      table-passes f (callLines (statesIn f) (labelsIn f) r work reports ++ eventLines (labelsIn f) r x event) n k read
+      ∙ first-append (callLines (statesIn f) (labelsIn f) r work reports) (eventLines (labelsIn f) r x event) judged.Fine
+      ∙ call-first (statesIn f) (labelsIn f) r work reports (firstOf (eventLines (labelsIn f) r x event) judged.Fine)
       ∙ sym (rw (hn, gk))
 
   -- A call that is refused.
   pub call-stands :
-      (call : Judged) (reason : answers.Refusal) → call ≡ firstOf (callLines n r work reports) judged.Fine → call ≡ judged.Refused reason →
+      (call : Judged) (reason : answers.Refusal) → call ≡ firstOf (callLines n k r work reports) judged.Fine → call ≡ judged.Refused reason →
       call ≡ firstOf (judgedLines f r work reports event) judged.Fine
   call-stands call reason h e =
-      let next : Judged = firstOf (eventLines k r event) judged.Fine in
+      let next : Judged = firstOf (eventLines k r (newestWord r work) event) judged.Fine in
       e ∙ sym (both-judged call next h refl ∙ ap (λ (x : Judged). after x next) e)
 
   -- A call that is not, and its event.
   pub call-passes :
-      (call next : Judged) → call ≡ firstOf (callLines n r work reports) judged.Fine → call ≡ judged.Fine →
-      next ≡ firstOf (eventLines k r event) judged.Fine → next ≡ firstOf (judgedLines f r work reports event) judged.Fine
+      (call next : Judged) → call ≡ firstOf (callLines n k r work reports) judged.Fine → call ≡ judged.Fine →
+      next ≡ firstOf (eventLines k r (newestWord r work) event) judged.Fine → next ≡ firstOf (judgedLines f r work reports event) judged.Fine
   call-passes call next h e g = sym (both-judged call next h g ∙ ap (λ (x : Judged). after x next) e)
 
 -- The one line of a start after the table's.

@@ -82,7 +82,7 @@ used-some b used alive e h = rw e h
 
 -- Where the record by itself is in order, the words decide.
 pub fault-words :
-    (r : Record) (n : ℕ) (work : List ℕ) (used : ℕ) (p : Place) → recordRight r ≡ true → used ≡ cond (r .finished) 0 (r .alive + 1) →
+    (r : Record) (n k : ℕ) (work : List ℕ) (used : ℕ) (p : Place) → recordRight r ≡ true → used ≡ cond (r .finished) 0 (r .alive + 1) →
     p
     ≡ firstFault
     record {
@@ -92,14 +92,15 @@ pub fault-words :
       depth = r .depth;
       states = n;
       positions = r .positions;
+      labels = k;
     }
     work →
-    p ≡ faultOf r n work
-fault-words r n work used p e u h = rw e (rw u at h)
+    p ≡ faultOf r n k work
+fault-words r n k work used p e u h = rw e (rw u at h)
 
-module _ (n : ℕ) (r : Record) (work : List ℕ) (reports : ℕ) where
+module _ (n k : ℕ) (r : Record) (work : List ℕ) (reports : ℕ) where
   abbrev call : Judged
-  call = firstOf (callLines n r work reports) judged.Fine
+  call = firstOf (callLines n k r work reports) judged.Fine
 
   pub sizes-stand : sizesRight (r .rows) (r .allowed) (length work) ≡ false → judged.Refused why.Sizes ≡ call
   sizes-stand e = rw e
@@ -109,11 +110,11 @@ module _ (n : ℕ) (r : Record) (work : List ℕ) (reports : ℕ) where
     reports-stand l = rw (e, lt-ltb reports (r .rows + 1) l)
 
     module _ (l : r .rows + 1 ≤ reports) where
-      pub order-stands : (at : ℕ) → faultOf r n work ≡ At at → judged.Refused (why.Order at) ≡ call
+      pub order-stands : (at : ℕ) → faultOf r n k work ≡ At at → judged.Refused (why.Order at) ≡ call
       order-stands at h = rw (e, le-ltb reports (r .rows + 1) l, h)
 
-      pub finished-stands : faultOf r n work ≡ Fine → r .finished ≡ true → judged.Refused why.Finished ≡ call
+      pub finished-stands : faultOf r n k work ≡ Fine → r .finished ≡ true → judged.Refused why.Finished ≡ call
       finished-stands h g = rw (e, le-ltb reports (r .rows + 1) l, h, g)
 
-      pub none-stands : faultOf r n work ≡ Fine → r .finished ≡ false → judged.Fine ≡ call
+      pub none-stands : faultOf r n k work ≡ Fine → r .finished ≡ false → judged.Fine ≡ call
       none-stands h g = rw (e, le-ltb reports (r .rows + 1) l, h, g)

@@ -8,15 +8,21 @@ use Rattle.meaning.specs.Refusals.{firstOf, appliesAt}
 use Rattle.meaning.proofs.Refusals.{taken-exactly}
 use Rattle.answers.specs.declared.Record.{Record}
 use Rattle.answers.specs.declared.Event.{Event}
-use Rattle.judge.specs.Judging.{judgedNumber, judgedLines, startLines}
+use Rattle.judge.specs.Judging.{judgedNumber, callLines, judgedLines, startLines}
 use Rattle.judge.specs.declared.Judged.the-variants.{Fine}
 
--- An event, of 1 to 14.
+-- An event, of all lines but the last.
 pub judged-none :
     (f : List ℕ) (r : Record) (work : List ℕ) (reports : ℕ) (e : Event) →
     (judgedNumber (firstOf (judgedLines f r work reports e) Fine) ≡ 0)
     ↔ ((i : ℕ) → appliesAt (judgedLines f r work reports e) i ≡ false)
 judged-none f r work reports e = taken-exactly judgedNumber Fine (judgedLines f r work reports e) tt
+
+-- The call's lines alone: the same.
+pub call-none :
+    (n k : ℕ) (r : Record) (work : List ℕ) (reports : ℕ) →
+    (judgedNumber (firstOf (callLines n k r work reports) Fine) ≡ 0) ↔ ((i : ℕ) → appliesAt (callLines n k r work reports) i ≡ false)
+call-none n k r work reports = taken-exactly judgedNumber Fine (callLines n k r work reports) tt
 
 -- A start: the same.
 pub start-none :

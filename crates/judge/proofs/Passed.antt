@@ -18,15 +18,14 @@ use Rattle.order.specs.declared.Place.the-variants.{Fine, At}
 use Rattle.order.specs.Order.{firstFault}
 use Rattle.answers.specs.declared.Record.{Record}
 use Rattle.answers.specs.declared.Event.{Event}
-use Rattle.answers.specs.declared.Event.the-variants.{Open, Point, Close, End, Unknown}
-use Rattle.judge.specs.Judging.{judgedNumber, judgedLines, startLines, sizesRight, recordRight, shapeOf, faultOf, isFault}
+use Rattle.answers.specs.declared.Event.the-variants.{Open, Point, Close, CloseOf, End, Unknown}
+use Rattle.judge.specs.Judging.{judgedNumber, callLines, judgedLines, startLines, sizesRight, recordRight, shapeOf, faultOf, isFault}
 use Rattle.judge.specs.declared.Judged.the-variants as judged
 use Rattle.judge.proofs.Laws.{sized, within}
-use Rattle.judge.proofs.Numbers.{judged-none, start-none}
+use Rattle.judge.proofs.Numbers.{judged-none, call-none, start-none}
 
--- What a call that passed 1 to 8 has.
-pub record Passed (f : List ℕ) (r : Record) (work : List ℕ) (reports : ℕ) : Type 0 where
-  pub sound : Sound f
+-- What a call that passed 6 to 8 has, for a table with n states and k labels.
+pub record Called (n k : ℕ) (r : Record) (work : List ℕ) (reports : ℕ) : Type 0 where
   pub few-rows : r .rows ≤ 64
   pub few-levels : r .allowed ≤ 40
   pub size : length work ≡ workLength (r .rows) (r .allowed)
@@ -34,14 +33,20 @@ pub record Passed (f : List ℕ) (r : Record) (work : List ℕ) (reports : ℕ) 
   pub room : r .alive ≤ r .rows
   pub deep : r .depth ≤ r .allowed
   pub numbered : r .positions ≤ 2147483647
-  pub in-order : firstFault (shapeOf r (statesIn f)) work ≡ Fine
+  pub in-order : firstFault (shapeOf r n k) work ≡ Fine
   pub going-on : r .finished ≡ false
 
--- What an event that passed 9 to 14 has, for a table with k labels.
+-- What a call that passed 1 to 8 has.
+pub record Passed (f : List ℕ) (r : Record) (work : List ℕ) (reports : ℕ) : Type 0 where
+  pub sound : Sound f
+  pub called : Called (statesIn f) (labelsIn f) r work reports
+
+-- What an event has that passed the lines after those, for a table with k labels.
 abbrev pub EventPassed : ℕ → Record → Event → Type 0
 EventPassed k r (Open a) = (a < k) × (r .depth < r .allowed) × (r .positions < 2147483647)
 EventPassed k r (Point a) = (a < k) × (r .positions < 2147483647)
 EventPassed k r Close = 0 < r .depth
+EventPassed k r (CloseOf a) = 0 < r .depth
 EventPassed k r End = r .depth ≡ 0
 EventPassed k r Unknown = ⊥
 
@@ -73,21 +78,18 @@ both-right : (b : Bool) (p : Place) (at : ℕ) → cond b p (At at) ≡ Fine →
 both-right true p at e = (refl, e)
 both-right false p at e = absurd (true≢false (ap isFault e))
 
-module _ (f work : List ℕ) (r : Record) (reports : ℕ) (e : Event) where
-  -- No line applies.
-  none : firstOf (judgedLines f r work reports e) judged.Fine ≡ judged.Fine → (i : ℕ) → appliesAt (judgedLines f r work reports e) i ≡ false
-  none h = judged-none f r work reports e .0 (ap judgedNumber h)
-
-  pub passed : firstOf (judgedLines f r work reports e) judged.Fine ≡ judged.Fine → Passed f r work reports
-  passed h =
-      let n = none h in
-      let both = neither (not (sizesRight (r .rows) (r .allowed) (length work))) (ltb reports (r .rows + 1)) (n 5) in
+module _ (n k : ℕ) (r : Record) (work : List ℕ) (reports : ℕ) where
+  -- None of 6 to 8 applies.
+  none-called :
+      not (sizesRight (r .rows) (r .allowed) (length work)) || ltb reports (r .rows + 1) ≡ false → isFault (faultOf r n k work) ≡ false →
+      r .finished ≡ false → Called n k r work reports
+  none-called sizes order going =
+      let both = neither (not (sizesRight (r .rows) (r .allowed) (length work))) (ltb reports (r .rows + 1)) sizes in
       let s = sized (r .rows) (r .allowed) (length work) (not-false (sizesRight (r .rows) (r .allowed) (length work)) (both .0)) in
       let enough : r .rows + 1 ≤ reports = ltb-false reports (r .rows + 1) (both .1) in
-      let fine = both-right (recordRight r) (firstFault (shapeOf r (statesIn f)) work) (length work) (no-fault (faultOf r (statesIn f) work) (n 6)) in
+      let fine = both-right (recordRight r) (firstFault (shapeOf r n k) work) (length work) (no-fault (faultOf r n k work) order) in
       let w = within r (fine .0) in
       record {
-        sound = sound-file f (n 0) (n 1) (n 2) (n 3) (n 4);
         few-rows = s .few-rows;
         few-levels = s .few-levels;
         size = s .long;
@@ -96,7 +98,25 @@ module _ (f work : List ℕ) (r : Record) (reports : ℕ) (e : Event) where
         deep = w .deep;
         numbered = w .numbered;
         in-order = fine .1;
-        going-on = n 7;
+        going-on = going;
+      }
+
+  pub call-passed : firstOf (callLines n k r work reports) judged.Fine ≡ judged.Fine → Called n k r work reports
+  call-passed h =
+      let none = call-none n k r work reports .0 (ap judgedNumber h) in
+      none-called (none 0) (none 1) (none 2)
+
+module _ (f work : List ℕ) (r : Record) (reports : ℕ) (e : Event) where
+  -- No line applies.
+  none : firstOf (judgedLines f r work reports e) judged.Fine ≡ judged.Fine → (i : ℕ) → appliesAt (judgedLines f r work reports e) i ≡ false
+  none h = judged-none f r work reports e .0 (ap judgedNumber h)
+
+  pub passed : firstOf (judgedLines f r work reports e) judged.Fine ≡ judged.Fine → Passed f r work reports
+  passed h =
+      let n = none h in
+      record {
+        sound = sound-file f (n 0) (n 1) (n 2) (n 3) (n 4);
+        called = none-called (statesIn f) (labelsIn f) r work reports (n 5) (n 6) (n 7);
       }
 
 pub event-passed :
@@ -104,15 +124,18 @@ pub event-passed :
     EventPassed (labelsIn f) r e
 event-passed f work r reports (Open a) h =
     let n = none f work r reports (Open a) h in
-    (leb-false (labelsIn f) a (n 9), leb-false (r .allowed) (r .depth) (n 11), leb-false 2147483647 (r .positions) (n 13))
+    (leb-false (labelsIn f) a (n 9), leb-false (r .allowed) (r .depth) (n 12), leb-false 2147483647 (r .positions) (n 14))
 event-passed f work r reports (Point a) h =
     let n = none f work r reports (Point a) h in
-    (leb-false (labelsIn f) a (n 9), leb-false 2147483647 (r .positions) (n 13))
+    (leb-false (labelsIn f) a (n 9), leb-false 2147483647 (r .positions) (n 14))
 event-passed f work r reports Close h =
     let open-some : r .depth ≡ 0 → ⊥ = eqb-false (r .depth) 0 (none f work r reports Close h 10) in
     omega (arith, open-some)
+event-passed f work r reports (CloseOf a) h =
+    let open-some : r .depth ≡ 0 → ⊥ = eqb-false (r .depth) 0 (none f work r reports (CloseOf a) h 10) in
+    omega (arith, open-some)
 event-passed f work r reports End h =
-    let closed : r .depth ≤ 0 = ltb-false 0 (r .depth) (none f work r reports End h 12) in
+    let closed : r .depth ≤ 0 = ltb-false 0 (r .depth) (none f work r reports End h 13) in
     omega (arith, closed)
 event-passed f work r reports Unknown h = absurd (true≢false (none f work r reports Unknown h 8))
 

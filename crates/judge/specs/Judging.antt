@@ -1,24 +1,25 @@
--- Refusals 1 to 14 of 01, line by line: each line is a test on what the call was given. Definitions only.
+-- All refusals but that for want of rows, line by line in the order of checking: each line is a test on what the call was
+-- given (01, "Refusal numbers", and 02 from K2 on). Definitions only.
 use mathlib.Core.Bool.{Bool, true, false, not, cond, _&&_, _||_}
 use mathlib.Core.List.{List, [], _∷_, _++_}
-use Prim.Native.Nat.{ℕ, _+_}
+use Prim.Native.Nat.{ℕ, suc, _+_}
 use lib.Dec.{eqb, leb, ltb}
-use lib.ListN.{length}
+use lib.ListN.{length, getD}
 use Rattle.meaning.specs.Refusals.{Line}
 use Rattle.bodies.specs.Sound.{statesIn, labelsIn}
 use Rattle.table.specs.File.{between, isShort, headerRight, contentsRight, lengthRight, bodiesRight}
 use Rattle.table.specs.declared.Refusal.the-variants as file
-use Rattle.places.specs.Places.{workLength}
+use Rattle.places.specs.Places.{workLength, labelsPart, labelAt}
 use Rattle.order.specs.declared.Shape.{Shape}
 use Rattle.order.specs.declared.Place.{Place}
 use Rattle.order.specs.declared.Place.the-variants.{Fine, At}
 use Rattle.order.specs.Order.{firstFault}
 use Rattle.answers.specs.declared.Record.{Record}
 use Rattle.answers.specs.declared.Event.{Event}
-use Rattle.answers.specs.declared.Event.the-variants.{Open, Point, Close, End, Unknown}
+use Rattle.answers.specs.declared.Event.the-variants.{Open, Point, Close, CloseOf, End, Unknown}
 use Rattle.answers.specs.declared.Refusal.{Refusal}
 use Rattle.answers.specs.declared.Refusal.the-variants as why
-use Rattle.answers.specs.Answers.{refusalNumber}
+use Rattle.answers.specs.Answers.{refusalNumber, refusalRank}
 use Rattle.judge.specs.declared.Judged.{Judged}
 use Rattle.judge.specs.declared.Judged.the-variants as judged
 
@@ -26,10 +27,14 @@ use Rattle.judge.specs.declared.Judged.the-variants as judged
 abbrev pub refuses : Bool → Refusal → Line Judged
 refuses applies why = record { applies = applies; gives = judged.Refused why }
 
--- The number that a judgement gives: 0 where nothing is refused.
+-- The number and the rank of what a judgement gives: 0 where nothing is refused.
 abbrev pub judgedNumber : Judged → ℕ
 judgedNumber judged.Fine = 0
 judgedNumber (judged.Refused why) = refusalNumber why
+
+abbrev pub judgedRank : Judged → ℕ
+judgedRank judged.Fine = 0
+judgedRank (judged.Refused why) = refusalRank why
 
 -- 1 to 5: the table file.
 abbrev pub tableLines : List ℕ → List (Line Judged)
@@ -53,9 +58,9 @@ recordRight r =
     && (leb (r .positions) 2147483647
     && (not (r .finished) || (eqb (r .depth) 0 && eqb (r .alive) 0))))
 
--- What work memory is judged by, for a table with n states. A finished watch uses no row.
-abbrev pub shapeOf : Record → ℕ → Shape
-shapeOf r n =
+-- What work memory is judged by, for a table with n states and k labels. A finished watch uses no row.
+abbrev pub shapeOf : Record → ℕ → ℕ → Shape
+shapeOf r n k =
     record {
       rows = r .rows + 1;
       allowed = r .allowed;
@@ -63,11 +68,12 @@ shapeOf r n =
       depth = r .depth;
       states = n;
       positions = r .positions;
+      labels = k;
     }
 
 -- The first word that breaks the order; the length of work memory where the record by itself breaks it.
-abbrev pub faultOf : Record → ℕ → List ℕ → Place
-faultOf r n work = cond (recordRight r) (firstFault (shapeOf r n) work) (At (length work))
+abbrev pub faultOf : Record → ℕ → ℕ → List ℕ → Place
+faultOf r n k work = cond (recordRight r) (firstFault (shapeOf r n k) work) (At (length work))
 
 abbrev pub isFault : Place → Bool
 isFault Fine = false
@@ -78,10 +84,10 @@ faultAt Fine = 0
 faultAt (At place) = place
 
 -- 6 to 8 of an event.
-abbrev pub callLines : ℕ → Record → List ℕ → ℕ → List (Line Judged)
-callLines n r work reports =
+abbrev pub callLines : ℕ → ℕ → Record → List ℕ → ℕ → List (Line Judged)
+callLines n k r work reports =
     refuses (not (sizesRight (r .rows) (r .allowed) (length work)) || ltb reports (r .rows + 1)) why.Sizes
-    ∷ refuses (isFault (faultOf r n work)) (why.Order (faultAt (faultOf r n work)))
+    ∷ refuses (isFault (faultOf r n k work)) (why.Order (faultAt (faultOf r n k work)))
     ∷ refuses (r .finished) why.Finished
     ∷ []
 
@@ -90,6 +96,7 @@ abbrev pub isUnknown : Event → Bool
 isUnknown (Open a) = false
 isUnknown (Point a) = false
 isUnknown Close = false
+isUnknown (CloseOf a) = false
 isUnknown End = false
 isUnknown Unknown = true
 
@@ -98,6 +105,7 @@ abbrev pub labelWrong : ℕ → Event → Bool
 labelWrong k (Open a) = leb k a
 labelWrong k (Point a) = leb k a
 labelWrong k Close = false
+labelWrong k (CloseOf a) = leb k a
 labelWrong k End = false
 labelWrong k Unknown = false
 
@@ -106,14 +114,29 @@ abbrev pub closesNothing : ℕ → Event → Bool
 closesNothing d (Open a) = false
 closesNothing d (Point a) = false
 closesNothing d Close = eqb d 0
+closesNothing d (CloseOf a) = eqb d 0
 closesNothing d End = false
 closesNothing d Unknown = false
+
+-- 16: a close that names another label than the newest level's, whose word is x.
+abbrev pub closesAnother : ℕ → ℕ → Event → Bool
+closesAnother d x (Open a) = false
+closesAnother d x (Point a) = false
+closesAnother d x Close = false
+closesAnother d x (CloseOf a) = not (eqb d 0) && not (eqb x (suc a))
+closesAnother d x End = false
+closesAnother d x Unknown = false
+
+-- The word of the newest level's label.
+abbrev pub newestWord : Record → List ℕ → ℕ
+newestWord r work = getD (labelsPart (r .rows) (r .allowed) work) (labelAt (r .depth)) 0
 
 -- 12: an open at the depth allowed.
 abbrev pub opensTooDeep : ℕ → ℕ → Event → Bool
 opensTooDeep d allowed (Open a) = leb allowed d
 opensTooDeep d allowed (Point a) = false
 opensTooDeep d allowed Close = false
+opensTooDeep d allowed (CloseOf a) = false
 opensTooDeep d allowed End = false
 opensTooDeep d allowed Unknown = false
 
@@ -122,6 +145,7 @@ abbrev pub endsOpen : ℕ → Event → Bool
 endsOpen d (Open a) = false
 endsOpen d (Point a) = false
 endsOpen d Close = false
+endsOpen d (CloseOf a) = false
 endsOpen d End = ltb 0 d
 endsOpen d Unknown = false
 
@@ -130,23 +154,26 @@ abbrev pub outOfPositions : ℕ → Event → Bool
 outOfPositions p (Open a) = leb 2147483647 p
 outOfPositions p (Point a) = leb 2147483647 p
 outOfPositions p Close = false
+outOfPositions p (CloseOf a) = false
 outOfPositions p End = false
 outOfPositions p Unknown = false
 
--- 9 to 14.
-abbrev pub eventLines : ℕ → Record → Event → List (Line Judged)
-eventLines k r e =
+-- 9 to 11, 16, and 12 to 14, where x is the word of the newest level's label.
+abbrev pub eventLines : ℕ → Record → ℕ → Event → List (Line Judged)
+eventLines k r x e =
     refuses (isUnknown e) why.Unknown
     ∷ refuses (labelWrong k e) why.Label
     ∷ refuses (closesNothing (r .depth) e) why.NothingOpen
+    ∷ refuses (closesAnother (r .depth) x e) why.ClosingLabel
     ∷ refuses (opensTooDeep (r .depth) (r .allowed) e) why.TooDeep
     ∷ refuses (endsOpen (r .depth) e) why.LevelOpen
     ∷ refuses (outOfPositions (r .positions) e) why.Positions
     ∷ []
 
--- 1 to 14 of an event.
+-- All of an event's but the last.
 abbrev pub judgedLines : List ℕ → Record → List ℕ → ℕ → Event → List (Line Judged)
-judgedLines f r work reports e = tableLines f ++ callLines (statesIn f) r work reports ++ eventLines (labelsIn f) r e
+judgedLines f r work reports e =
+    tableLines f ++ callLines (statesIn f) (labelsIn f) r work reports ++ eventLines (labelsIn f) r (newestWord r work) e
 
 -- 1 to 6 of a start.
 abbrev pub startLines : List ℕ → ℕ → ℕ → ℕ → List (Line Judged)

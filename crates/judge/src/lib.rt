@@ -1,13 +1,13 @@
-// Refusals 1 to 14 of 01: judging what a call was given, before anything is done. Nothing is written.
+// All refusals but that for want of rows: judging what a call was given, before anything is done. Nothing is written.
 //
 // The outer functions here take any table, record, words and event.
 ghost use mathlib.Core.Path.{_≡_};
-ghost use Prim.Native.Nat.{_+_, _≤_};
+ghost use Prim.Native.Nat.{ℕ, _+_, _≤_};
 ghost use lib.ListN.{length};
 ghost use Rattle.meaning.specs.Refusals.{firstOf};
 ghost use Rattle.places.specs.Places.{workLength};
 ghost use Rattle.judge.specs.Judging.{callLines, eventLines, judgedLines, startLines};
-ghost use Rattle.judge.specs.Judging.{sizesRight, recordRight, faultOf};
+ghost use Rattle.judge.specs.Judging.{sizesRight, recordRight, faultOf, newestWord};
 use answers::Event;
 use answers::Record;
 use answers::Refusal;
@@ -45,9 +45,9 @@ fn record_right(r: Record) -> bool
 }
 
 // The first word of work memory that is out of order; its length where the record by itself is.
-fn fault(r: Record, n: u64, work: &[u64]) -> Place
+fn fault(r: Record, n: u64, k: u64, work: &[u64]) -> Place
     requires { ⌜ (r .rows ≤ 64) × (r .allowed ≤ 40) × (length (now work) ≡ workLength (r .rows) (r .allowed)) ⌝ }
-    ensures { λ p. ⌜ p ≡ faultOf r n (now (work .entry)) ⌝ }
+    ensures { λ p. ⌜ p ≡ faultOf r n k (now (work .entry)) ⌝ }
 {
     if !record_right(r) {
         return Place::At(work.len());
@@ -62,13 +62,14 @@ fn fault(r: Record, n: u64, work: &[u64]) -> Place
             depth: r.depth as usize,
             states: n,
             positions: r.positions,
+            labels: k,
         },
     )
 }
 
-// 6 to 8, for a table of n states.
-fn judge_call(n: u64, r: Record, work: &[u64], reports: usize) -> Judged
-    ensures { λ j. ⌜ j ≡ firstOf (callLines n r (now (work .entry)) reports) Judged.Fine ⌝ }
+// 6 to 8, for a table of n states and k labels.
+fn judge_call(n: u64, k: u64, r: Record, work: &[u64], reports: usize) -> Judged
+    ensures { λ j. ⌜ j ≡ firstOf (callLines n k r (now (work .entry)) reports) Judged.Fine ⌝ }
 {
     if !sizes_right(r.rows, r.allowed, work.len()) {
         return Judged::Refused(Refusal::Sizes);
@@ -76,7 +77,7 @@ fn judge_call(n: u64, r: Record, work: &[u64], reports: usize) -> Judged
     if (reports as u64) < r.rows + 1 {
         return Judged::Refused(Refusal::Sizes);
     }
-    let place = fault(r, n, work);
+    let place = fault(r, n, k, work);
     if let Place::At(at) = place {
         return Judged::Refused(Refusal::Order(at as u64));
     }
@@ -88,7 +89,7 @@ fn judge_call(n: u64, r: Record, work: &[u64], reports: usize) -> Judged
 
 // 10, 12 and 14, of an open.
 fn judge_open(k: u64, r: Record, a: u64) -> Judged
-    ensures { λ j. ⌜ j ≡ firstOf (eventLines k r (Event.Open a)) Judged.Fine ⌝ }
+    ensures { λ j. ⌜ ((x : ℕ) → j ≡ firstOf (eventLines k r x (Event.Open a)) Judged.Fine) ⌝ }
 {
     if k <= a {
         return Judged::Refused(Refusal::Label);
@@ -104,7 +105,7 @@ fn judge_open(k: u64, r: Record, a: u64) -> Judged
 
 // 10 and 14, of a point.
 fn judge_point(k: u64, r: Record, a: u64) -> Judged
-    ensures { λ j. ⌜ j ≡ firstOf (eventLines k r (Event.Point a)) Judged.Fine ⌝ }
+    ensures { λ j. ⌜ ((x : ℕ) → j ≡ firstOf (eventLines k r x (Event.Point a)) Judged.Fine) ⌝ }
 {
     if k <= a {
         return Judged::Refused(Refusal::Label);
@@ -115,9 +116,29 @@ fn judge_point(k: u64, r: Record, a: u64) -> Judged
     Judged::Fine
 }
 
-// 9 to 14, for a table of k labels.
-fn judge_event(k: u64, r: Record, event: Event) -> Judged
-    ensures { λ j. ⌜ j ≡ firstOf (eventLines k r event) Judged.Fine ⌝ }
+// 10, 11 and 16, of a close that names a label.
+fn judge_close_of(k: u64, r: Record, work: &[u64], a: u64) -> Judged
+    requires { ⌜ (r .rows ≤ 64) × (r .allowed ≤ 40) × (r .depth ≤ r .allowed) × (length (now work) ≡ workLength (r .rows) (r .allowed)) ⌝ }
+    ensures { λ j. ⌜ j ≡ firstOf (eventLines k r (newestWord r (now (work .entry))) (Event.CloseOf a)) Judged.Fine ⌝ }
+{
+    if k <= a {
+        return Judged::Refused(Refusal::Label);
+    }
+    if r.depth == 0 {
+        return Judged::Refused(Refusal::NothingOpen);
+    }
+    let from = places::rows_length(r.rows as usize, r.allowed as usize);
+    let word = work[from + places::label_at(r.depth as usize)];
+    if word != a + 1 {
+        return Judged::Refused(Refusal::ClosingLabel);
+    }
+    Judged::Fine
+}
+
+// 9 to 14 and 16, for a table of k labels.
+fn judge_event(k: u64, r: Record, work: &[u64], event: Event) -> Judged
+    requires { ⌜ (r .rows ≤ 64) × (r .allowed ≤ 40) × (r .depth ≤ r .allowed) × (length (now work) ≡ workLength (r .rows) (r .allowed)) ⌝ }
+    ensures { λ j. ⌜ j ≡ firstOf (eventLines k r (newestWord r (now (work .entry))) event) Judged.Fine ⌝ }
 {
     match event {
         Event::Open(a) => judge_open(k, r, a),
@@ -129,6 +150,7 @@ fn judge_event(k: u64, r: Record, event: Event) -> Judged
                 Judged::Fine
             }
         }
+        Event::CloseOf(a) => judge_close_of(k, r, work, a),
         Event::End => {
             if 0 < r.depth {
                 Judged::Refused(Refusal::LevelOpen)
@@ -140,7 +162,7 @@ fn judge_event(k: u64, r: Record, event: Event) -> Judged
     }
 }
 
-// 1 to 14, of an event; `reports` is the length of the reports' slice.
+// All of an event's but the last; `reports` is the length of the reports' slice.
 pub fn judge(table: &[u8], r: Record, work: &[u64], reports: usize, event: Event) -> Judged
     ensures { λ j. ⌜ j ≡ firstOf (judgedLines (now (table .entry)) r (now (work .entry)) reports event) Judged.Fine ⌝ }
 {
@@ -148,10 +170,10 @@ pub fn judge(table: &[u8], r: Record, work: &[u64], reports: usize, event: Event
     match reading {
         Reading::Refused(why) => Judged::Refused(Refusal::Table(why)),
         Reading::Taken(n, k) => {
-            let judged = judge_call(n, r, work, reports);
+            let judged = judge_call(n, k, r, work, reports);
             match judged {
                 Judged::Refused(_) => judged,
-                Judged::Fine => judge_event(k, r, event),
+                Judged::Fine => judge_event(k, r, work, event),
             }
         }
     }

@@ -21,14 +21,15 @@ use Rattle.link.specs.Linked.{fitting, startNumber, startLeavesWork, sta
 use Rattle.link.specs.Linked.{nextWords, eventNumber, eventLeavesRecord, eventLeavesWork, eventLeavesReports, eventLeavesAnswer}
 
 -- Every refusal but 7 carries no place.
-pub no-place : (x : Refusal) → OneOf (0 ∷ 1 ∷ 3 ∷ 4 ∷ 5 ∷ 6 ∷ 7 ∷ 8 ∷ 9 ∷ 10 ∷ []) (tagOf the-type x) → 0 ≡ placeOf x
+pub no-place : (x : Refusal) → OneOf (0 ∷ 1 ∷ 3 ∷ 4 ∷ 5 ∷ 6 ∷ 7 ∷ 8 ∷ 9 ∷ 10 ∷ 11 ∷ []) (tagOf the-type x) → 0 ≡ placeOf x
 no-place (why.Table reason) other = refl
 no-place why.Sizes other = refl
-no-place (why.Order place) other = absurd (miss (0 ∷ 1 ∷ 3 ∷ 4 ∷ 5 ∷ 6 ∷ 7 ∷ 8 ∷ 9 ∷ 10 ∷ []) 2 tt other)
+no-place (why.Order place) other = absurd (miss (0 ∷ 1 ∷ 3 ∷ 4 ∷ 5 ∷ 6 ∷ 7 ∷ 8 ∷ 9 ∷ 10 ∷ 11 ∷ []) 2 tt other)
 no-place why.Finished other = refl
 no-place why.Unknown other = refl
 no-place why.Label other = refl
 no-place why.NothingOpen other = refl
+no-place why.ClosingLabel other = refl
 no-place why.TooDeep other = refl
 no-place why.LevelOpen other = refl
 no-place why.Positions other = refl

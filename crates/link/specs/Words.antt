@@ -36,6 +36,7 @@ placeOf why.Finished = 0
 placeOf why.Unknown = 0
 placeOf why.Label = 0
 placeOf why.NothingOpen = 0
+placeOf why.ClosingLabel = 0
 placeOf why.TooDeep = 0
 placeOf why.LevelOpen = 0
 placeOf why.Positions = 0

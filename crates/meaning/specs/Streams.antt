@@ -18,6 +18,20 @@ positions (Open a ∷ w) = suc (positions w)
 positions (Point a ∷ w) = suc (positions w)
 positions (Close ∷ w) = positions w
 
+-- The labels of the open levels, newest first: what an event makes of them. A close with nothing open changes nothing.
+abbrev pub allButNewest : List ℕ → List ℕ
+allButNewest [] = []
+allButNewest (a ∷ o) = o
+
+abbrev pub openedBy : List ℕ → Event → List ℕ
+openedBy o (Open a) = a ∷ o
+openedBy o (Point a) = o
+openedBy o Close = allButNewest o
+
+abbrev pub openAfter : List ℕ → List Event → List ℕ
+openAfter o [] = o
+openAfter o (e ∷ w) = openAfter (openedBy o e) w
+
 -- A run so far: how many positions are still to come up to and with the marked one (0: no mark is to come), the newest
 -- state, and the states put aside, newest first.
 pub record Run : Type 0 where

@@ -13,7 +13,7 @@ use Rattle.names.specs.declared.Label.{Label}
 use Rattle.names.specs.declared.Label.the-variants as label
 use Rattle.names.specs.Words.{labelled}
 
-eqb-turned : (a b : ℕ) → eqb a b ≡ eqb b a
+pub eqb-turned : (a b : ℕ) → eqb a b ≡ eqb b a
 eqb-turned a b = go (eqb b a) refl
   where
     go : (t : Bool) → eqb b a ≡ t → eqb a b ≡ t

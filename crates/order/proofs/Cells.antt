@@ -4,17 +4,18 @@ use mathlib.Core.Bool.{true, _&&_}
 use mathlib.Core.List.{List}
 use Prim.Native.Nat.{ℕ, zero, suc, _+_, _-_, _*_, _<_, _≤_}
 use native.Mathlib.Omega.{arith}
-use native.Mathlib.Nat.{mul-le-mul-right}
+use native.Mathlib.Nat.{mul-le-mul-right, le-suc}
 use borrow.Author.Tests.{lt-ltb, le-ltb, le-leb, lt-leb, eq-eqb, ne-eqb}
 use lib.Dec.{ltb, leb, eqb}
-use lib.ListN.{getD}
-use Rattle.places.specs.Places.{levelOf, partOf, rowLength}
+use lib.ListN.{getD, take}
+use lib.Seq.{getD-take}
+use Rattle.places.specs.Places.{positionAt, levelOf, partOf, rowLength, rowAt}
 use Rattle.places.proofs.Rows.{row-fits as fits}
 use Rattle.order.specs.declared.Shape.{Shape}
-use Rattle.order.specs.Order.{positionRight, cellRight}
+use Rattle.order.specs.Order.{positionRight, cellRight, labelsFrom}
 
 -- A row that is there is within the n words of all rows.
-pub row-fits : (rows r v w n : ℕ) → w ≡ v → r < rows → rows * v ≡ n → r * w + w ≤ n
+pub row-fits : (rows r v w n : ℕ) → w ≡ v → r < rows → rows * v ≤ n → r * w + w ≤ n
 row-fits rows r v w n e h f = rw e (fits rows r v n h (omega (arith, f)))
 
 pub row-before : (r w : ℕ) → (r - 1) * w ≤ r * w
@@ -26,6 +27,15 @@ first s words r x e = rw e
 later : (s : Shape) (words : List ℕ) (r x : ℕ) → 0 < r → positionRight s words r x ≡ ltb (getD words ((r - 1) * rowLength (s .allowed) + 0) 0) x && leb x (s .positions)
 later s words zero x h = absurd (omega arith)
 later s words (suc r) x h = let e : suc r - 1 ≡ r = omega arith in rw e
+
+-- The words after the rows do not matter for a word of them.
+pub cell-in-rows :
+    (s : Shape) (words : List ℕ) (r c : ℕ) → rowAt (s .allowed) r + c < labelsFrom s →
+    cellRight s (take (labelsFrom s) words) r c ≡ cellRight s words r c
+cell-in-rows s words zero c h = rw (getD-take (labelsFrom s) words (rowAt (s .allowed) 0 + c) 0 h)
+cell-in-rows s words (suc r) c h =
+    let before : rowAt (s .allowed) r + positionAt < labelsFrom s = omega (arith, mul-le-mul-right (rowLength (s .allowed)) (le-suc r), h) in
+    rw (getD-take (labelsFrom s) words (rowAt (s .allowed) (suc r) + c) 0 h, getD-take (labelsFrom s) words (rowAt (s .allowed) r + positionAt) 0 before)
 
 module _ (s : Shape) (words : List ℕ) (w r c : ℕ) (e : w ≡ rowLength (s .allowed)) where
   pub row-unused : s .used ≤ r → eqb (getD words (r * w + c) 0) 0 ≡ cellRight s words r c

@@ -2,7 +2,7 @@
 use mathlib.Core.Path.{_≡_, sym, ap, _∙_}
 use mathlib.Core.Bool.{Bool, true, false}
 use mathlib.Core.List.{List}
-use Prim.Native.Nat.{ℕ, _+_, _*_, _≤_}
+use Prim.Native.Nat.{ℕ, _+_, _*_, _<_, _≤_}
 use native.Mathlib.Omega.{arith}
 use Rattle.places.specs.Places.{stateAt, selectingAt, rejectingAt, rowLength, rowAt}
 use Rattle.order.specs.declared.Shape.{Shape}
@@ -18,10 +18,10 @@ abbrev pub levelSearch : Shape → List ℕ → ℕ → ℕ → Place
 levelSearch s words r l = firstFrom (wordRight s words) (levelPlace s r l) 3
 
 -- w is the length of a row as the code has it.
-module _ (s : Shape) (words : List ℕ) (w r l : ℕ) (e : w ≡ rowLength (s .allowed)) (h : l ≤ s .allowed) where
+module _ (s : Shape) (words : List ℕ) (w r l : ℕ) (e : w ≡ rowLength (s .allowed)) (m : r < s .rows) (h : l ≤ s .allowed) where
   -- What a test says of the word at its place.
   said : (i at : ℕ) (b : Bool) → i ≡ rowAt (s .allowed) r + at → at ≤ rejectingAt l → b ≡ cellRight s words r at → wordRight s words i ≡ b
-  said i at b p q f = at-cell s words i r at p (omega arith) ∙ sym f
+  said i at b p q f = at-cell s words i r at p (omega arith) m ∙ sym f
 
   place : (i at : ℕ) → i ≡ rowAt (s .allowed) r + at → At (r * w + at) ≡ At i
   place i at p = rw e (ap At (sym p))

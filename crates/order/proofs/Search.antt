@@ -7,16 +7,29 @@ use native.Mathlib.Omega.{arith}
 use native.Mathlib.Nat.{suc-add, add-zero, zero-add, sub-zero}
 use native.Mathlib.Decide.{ℕ-discrete}
 use lib.Arith.{digits-div, digits-mod}
-use lib.ListN.{length}
-use Rattle.places.specs.Places.{rowLength}
+use lib.ListN.{getD}
+use borrow.Author.Tests.{lt-ltb, le-ltb}
+use Rattle.places.specs.Places.{rowLength, labelLevel}
+use Rattle.places.proofs.Rows.{row-fits}
 use Rattle.order.specs.declared.Shape.{Shape}
 use Rattle.order.specs.declared.Place.{Place}
 use Rattle.order.specs.declared.Place.the-variants.{Fine, At}
-use Rattle.order.specs.Order.{cellRight, wordRight, firstFrom, firstFault}
+use Rattle.order.specs.Order.{cellRight, labelRight, labelsFrom, wordRight, firstFrom}
 
--- A place is its row's place and the word's own in the row.
-pub at-cell : (s : Shape) (words : List ℕ) (i r c : ℕ) → i ≡ r * rowLength (s .allowed) + c → c < rowLength (s .allowed) → wordRight s words i ≡ cellRight s words r c
-at-cell s words i r c e h = rw (e, digits-div r h, digits-mod r h)
+module _ (s : Shape) (words : List ℕ) where
+  -- A place in a row is its row's place and the word's own in the row.
+  pub at-cell :
+      (i r c : ℕ) → i ≡ r * rowLength (s .allowed) + c → c < rowLength (s .allowed) → r < s .rows →
+      wordRight s words i ≡ cellRight s words r c
+  at-cell i r c e h l =
+      let inside : r * rowLength (s .allowed) + rowLength (s .allowed) ≤ s .rows * rowLength (s .allowed) = row-fits (s .rows) r (rowLength (s .allowed)) _ l (omega arith) in
+      rw (e, lt-ltb (r * rowLength (s .allowed) + c) (s .rows * rowLength (s .allowed)) (omega (arith, inside)), digits-div r h, digits-mod r h)
+
+  -- After the rows it is that of a label.
+  pub at-label : (i l : ℕ) → i ≡ labelsFrom s + l → wordRight s words i ≡ labelRight s (labelLevel l) (getD words i 0)
+  at-label i l e =
+      let back : labelsFrom s + l - labelsFrom s ≡ l = omega arith in
+      rw (e, le-ltb (labelsFrom s + l) (labelsFrom s) (omega arith), back)
 
 -- The place found, or else another.
 abbrev orElse : Place → Place → Place
@@ -56,37 +69,35 @@ module _ (right : ℕ → Bool) where
       let p = cond-fine (right i) (firstFrom right (i + 1) n) i e in
       elim (ℕ-discrete j i) [ yes q ↦ rw q (p .0) | no q ↦ fine-all n (i + 1) (p .1) j (omega arith) (omega arith) ]
 
-module _ (s : Shape) (words : List ℕ) where
-  -- What is left of the search, from i on, is the whole search.
-  abbrev pub Rest : ℕ → Type 0
-  Rest i = firstFrom (wordRight s words) i (length words - i) ≡ firstFault s words
+  -- A search over n places, of which the first i passed: what is left of it is the whole search.
+  module _ (n : ℕ) where
+    abbrev pub Rest : ℕ → Type 0
+    Rest i = firstFrom right i (n - i) ≡ firstFrom right 0 n
 
-  pub rest-start : Rest 0
-  unfolding firstFault
-  rest-start = rw (sub-zero (length words))
+    pub rest-start : Rest 0
+    rest-start = rw (sub-zero n)
 
-  pub rest-end : (i : ℕ) → Rest i → length words ≤ i → Fine ≡ firstFault s words
-  unfolding firstFrom
-  rest-end i h e = let z : length words - i ≡ 0 = omega arith in rw z at h
+    pub rest-end : (i : ℕ) → Rest i → n ≤ i → Fine ≡ firstFrom right 0 n
+    unfolding firstFrom
+    rest-end i h e = let z : n - i ≡ 0 = omega arith in rw z at h
 
-  pub rest-right : (i j : ℕ) → Rest i → i < length words → wordRight s words i ≡ true → j ≡ i + 1 → Rest j
-  rest-right i j h l e q =
-      let z : length words - i ≡ suc (length words - (i + 1)) = omega arith in
-      rw q (sym (right-next (wordRight s words) i _ e) ∙ (rw z at h))
+    pub rest-right : (i j : ℕ) → Rest i → i < n → right i ≡ true → j ≡ i + 1 → Rest j
+    rest-right i j h l e q =
+        let z : n - i ≡ suc (n - (i + 1)) = omega arith in
+        rw q (sym (right-next i _ e) ∙ (rw z at h))
 
-  pub rest-wrong : (i : ℕ) → Rest i → i < length words → wordRight s words i ≡ false → At i ≡ firstFault s words
-  rest-wrong i h l e =
-      let z : length words - i ≡ suc (length words - (i + 1)) = omega arith in
-      sym (wrong-here (wordRight s words) i _ e) ∙ (rw z at h)
+    pub rest-wrong : (i : ℕ) → Rest i → i < n → right i ≡ false → At i ≡ firstFrom right 0 n
+    rest-wrong i h l e =
+        let z : n - i ≡ suc (n - (i + 1)) = omega arith in
+        sym (wrong-here i _ e) ∙ (rw z at h)
 
-  parted : (n i : ℕ) → Rest i → i + n ≤ length words
-      → orElse (firstFrom (wordRight s words) i n) (firstFrom (wordRight s words) (i + n) (length words - (i + n))) ≡ firstFault s words
-  parted n i h l =
-      let z : length words - i ≡ n + (length words - (i + n)) = omega arith in
-      sym (split (wordRight s words) n (length words - (i + n)) i) ∙ (rw z at h)
+    parted : (m i : ℕ) → Rest i → i + m ≤ n → orElse (firstFrom right i m) (firstFrom right (i + m) (n - (i + m))) ≡ firstFrom right 0 n
+    parted m i h l =
+        let z : n - i ≡ m + (n - (i + m)) = omega arith in
+        sym (split m (n - (i + m)) i) ∙ (rw z at h)
 
-  pub rest-fine : (n i j : ℕ) → Rest i → i + n ≤ length words → firstFrom (wordRight s words) i n ≡ Fine → j ≡ i + n → Rest j
-  rest-fine n i j h l e q = rw q (rw e at (parted n i h l))
+    pub rest-fine : (m i j : ℕ) → Rest i → i + m ≤ n → firstFrom right i m ≡ Fine → j ≡ i + m → Rest j
+    rest-fine m i j h l e q = rw q (rw e at (parted m i h l))
 
-  pub rest-fault : (n i k : ℕ) → Rest i → i + n ≤ length words → firstFrom (wordRight s words) i n ≡ At k → At k ≡ firstFault s words
-  rest-fault n i k h l e = rw e at (parted n i h l)
+    pub rest-fault : (m i k : ℕ) → Rest i → i + m ≤ n → firstFrom right i m ≡ At k → At k ≡ firstFrom right 0 n
+    rest-fault m i k h l e = rw e at (parted m i h l)

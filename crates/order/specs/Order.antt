@@ -1,10 +1,10 @@
--- In order, word by word (01, "In order means"), and the first word that breaks it. Definitions only.
+-- In order, word by word (01, "In order means", and 02, K2), and the first word that breaks it. Definitions only.
 use mathlib.Core.Bool.{Bool, true, cond, _&&_}
 use mathlib.Core.List.{List}
-use Prim.Native.Nat.{ℕ, zero, suc, _+_, _/_, _%_}
+use Prim.Native.Nat.{ℕ, zero, suc, _+_, _-_, _/_, _%_}
 use lib.Dec.{ltb, leb, eqb}
 use lib.ListN.{length, getD}
-use Rattle.places.specs.Places.{positionAt, levelOf, partOf, rowLength, rowAt}
+use Rattle.places.specs.Places.{positionAt, levelOf, partOf, rowLength, rowAt, labelLevel}
 use Rattle.order.specs.declared.Shape.{Shape}
 use Rattle.order.specs.declared.Place.{Place}
 use Rattle.order.specs.declared.Place.the-variants.{Fine, At}
@@ -23,15 +23,26 @@ cellRight s words r c =
     (cond (ltb (s .depth) (levelOf c)) (eqb x 0)
     (cond (eqb (partOf c) 0) (ltb x (s .states)) true)))
 
--- The word at place i of work memory is in order.
+-- The word x of the label of level l is in order: 1 to k where the level is open, else 0.
+abbrev pub labelRight : Shape → ℕ → ℕ → Bool
+labelRight s l x = cond (leb l (s .depth)) (ltb 0 x && leb x (s .labels)) (eqb x 0)
+
+-- Where the labels' words begin.
+abbrev pub labelsFrom : Shape → ℕ
+labelsFrom s = rowAt (s .allowed) (s .rows)
+
+-- The word at place i of work memory is in order: one of the rows', or one of the labels' after them.
 abbrev pub wordRight : Shape → List ℕ → ℕ → Bool
-wordRight s words i = cellRight s words (i / rowLength (s .allowed)) (i % rowLength (s .allowed))
+wordRight s words i =
+    cond (ltb i (labelsFrom s))
+    (cellRight s words (i / rowLength (s .allowed)) (i % rowLength (s .allowed)))
+    (labelRight s (labelLevel (i - labelsFrom s)) (getD words i 0))
 
 -- The first place from i on, among n, at which a test fails.
 unfoldable pub firstFrom : (ℕ → Bool) → ℕ → ℕ → Place
 firstFrom right i zero = Fine
 firstFrom right i (suc n) = cond (right i) (firstFrom right (i + 1) n) (At i)
 
--- The first word out of order, in any row and level.
+-- The first word out of order, in any row and level or of any label.
 unfoldable pub firstFault : Shape → List ℕ → Place
 firstFault s words = firstFrom (wordRight s words) 0 (length words)

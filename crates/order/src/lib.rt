@@ -1,11 +1,11 @@
 // Is work memory in order? If not, the place of the first word that breaks it (refusal 7 of 01).
 //
-// Any words are judged, as long as they are as many as the rows and levels ask for.
+// Any words are judged, as long as they are as many as the rows and levels ask for. The rows come first, then the labels.
 ghost use mathlib.Core.Path.{_≡_};
 ghost use Prim.Native.Nat.{ℕ, _+_, _*_, _<_, _≤_};
 ghost use lib.ListN.{length};
 ghost use Rattle.places.specs.Places.{levelLength, rowLength, rowAt, stateAt};
-ghost use Rattle.order.specs.Order.{cellRight, wordRight, firstFrom, firstFault};
+ghost use Rattle.order.specs.Order.{cellRight, labelRight, labelsFrom, wordRight, firstFrom, firstFault};
 
 // What the words are judged by.
 pub struct Shape {
@@ -18,6 +18,8 @@ pub struct Shape {
     // The number of states, and the positions read.
     pub states: u64,
     pub positions: u64,
+    // The number of labels.
+    pub labels: u64,
 }
 
 pub enum Place {
@@ -27,7 +29,7 @@ pub enum Place {
 
 // Is the word at c of row r in order?
 fn cell_right(words: &[u64], s: Shape, r: usize, c: usize) -> bool
-    requires { ⌜ (s .allowed ≤ 40) × (s .rows ≤ 65) × (r < s .rows) × (c < rowLength (s .allowed)) × (rowAt (s .allowed) (s .rows) ≡ length (now words)) ⌝ }
+    requires { ⌜ (s .allowed ≤ 40) × (s .rows ≤ 65) × (r < s .rows) × (c < rowLength (s .allowed)) × (rowAt (s .allowed) (s .rows) ≤ length (now words)) ⌝ }
     ensures { λ b. ⌜ b ≡ cellRight s (now (words .entry)) r c ⌝ }
 {
     let w = places::row_length(s.allowed);
@@ -50,7 +52,7 @@ fn cell_right(words: &[u64], s: Shape, r: usize, c: usize) -> bool
 
 // The first word out of order among those of level l in row r.
 fn level_fault(words: &[u64], s: Shape, r: usize, l: usize) -> Place
-    requires { ⌜ (s .allowed ≤ 40) × (s .rows ≤ 65) × (r < s .rows) × (l ≤ s .allowed) × (rowAt (s .allowed) (s .rows) ≡ length (now words)) ⌝ }
+    requires { ⌜ (s .allowed ≤ 40) × (s .rows ≤ 65) × (r < s .rows) × (l ≤ s .allowed) × (rowAt (s .allowed) (s .rows) ≤ length (now words)) ⌝ }
     ensures { λ p. ⌜ p ≡ firstFrom (wordRight s (now (words .entry))) (rowAt (s .allowed) r + stateAt l) levelLength ⌝ }
 {
     let from = r * places::row_length(s.allowed);
@@ -70,9 +72,9 @@ fn level_fault(words: &[u64], s: Shape, r: usize, l: usize) -> Place
 }
 
 // The first word out of order, in any row and level.
-pub fn first_fault(words: &[u64], s: Shape) -> Place
-    requires { ⌜ (s .allowed ≤ 40) × (s .rows ≤ 65) × (rowAt (s .allowed) (s .rows) ≡ length (now words)) ⌝ }
-    ensures { λ p. ⌜ p ≡ firstFault s (now (words .entry)) ⌝ }
+fn rows_fault(words: &[u64], s: Shape) -> Place
+    requires { ⌜ (s .allowed ≤ 40) × (s .rows ≤ 65) × (rowAt (s .allowed) (s .rows) ≤ length (now words)) ⌝ }
+    ensures { λ p. ⌜ p ≡ firstFrom (wordRight s (now (words .entry))) 0 (labelsFrom s) ⌝ }
 {
     let rows = s.rows;
     let allowed = s.allowed;
@@ -96,4 +98,44 @@ pub fn first_fault(words: &[u64], s: Shape) -> Place
         r += 1;
     }
     place
+}
+
+// Is x in order as the word of a level's label?
+fn label_right(s: Shape, level: usize, x: u64) -> bool
+    ensures { λ b. ⌜ b ≡ labelRight s level x ⌝ }
+{
+    if level <= s.depth {
+        0 < x && x <= s.labels
+    } else {
+        x == 0
+    }
+}
+
+// The first word out of order where none of the rows' is.
+fn labels_fault(words: &[u64], s: Shape) -> Place
+    requires { ⌜ (s .allowed ≤ 40) × (s .rows ≤ 65) × (labelsFrom s + s .allowed ≡ length (now words)) ⌝ }
+    requires { ⌜ Place.Fine ≡ firstFrom (wordRight s (now words)) 0 (labelsFrom s) ⌝ }
+    ensures { λ p. ⌜ p ≡ firstFault s (now (words .entry)) ⌝ }
+{
+    let from = s.rows * places::row_length(s.allowed);
+    let mut i: usize = 0;
+    while i < s.allowed {
+        if !label_right(s, places::label_level(i), words[from + i]) {
+            return Place::At(from + i);
+        }
+        i += 1;
+    }
+    Place::Fine
+}
+
+// The first word out of order, in any row and level or of any label.
+pub fn first_fault(words: &[u64], s: Shape) -> Place
+    requires { ⌜ (s .allowed ≤ 40) × (s .rows ≤ 65) × (labelsFrom s + s .allowed ≡ length (now words)) ⌝ }
+    ensures { λ p. ⌜ p ≡ firstFault s (now (words .entry)) ⌝ }
+{
+    let fault = rows_fault(words, s);
+    match fault {
+        Place::At(_) => fault,
+        Place::Fine => labels_fault(words, s),
+    }
 }

@@ -3,3 +3,4 @@ pub mod Zeros
 pub mod Sets
 pub mod Rows
 pub mod Good
+pub mod Labels

@@ -1,11 +1,11 @@
--- What work memory stands for: rows, each a position and its levels; and the words that rows stand for. Definitions
--- only. A row's levels are `Row` of meaning, the newest level first.
+-- What work memory stands for: rows, each a position and its levels, and the labels of the open levels; and the words that
+-- these stand for. Definitions only. A row's levels are `Row` of meaning, the newest level first; so are labels.
 use mathlib.Core.List.{List, [], _∷_, _++_}
 use mathlib.Core.Path.{_≡_}
-use Prim.Native.Nat.{ℕ, zero, suc, _+_, _*_, _<_, _≤_}
+use Prim.Native.Nat.{ℕ, zero, suc, _+_, _-_, _*_, _<_, _≤_}
 use lib.ListN.{getD, length, drop}
 use Rattle.meaning.specs.Rows.{Level, Row}
-use Rattle.places.specs.Places.{positionAt, stateAt, selectingAt, rejectingAt, rowLength, workLength, rowOf, padded}
+use Rattle.places.specs.Places.{positionAt, stateAt, selectingAt, rejectingAt, rowLength, rowsLength, labelAt, rowOf, padded}
 
 -- A row as memory holds it.
 pub record Held : Type 0 where
@@ -41,9 +41,22 @@ allWords w hs = each (rowWords w) hs
 abbrev pub rowsOf : Memory → List Held
 rowsOf m = record { position = 0; row = m .run } ∷ m .alive
 
--- The whole work memory. Words of rows not in use are 0.
-abbrev pub workWords : ℕ → ℕ → Memory → List ℕ
-workWords rows depth m = padded (workLength rows depth) (allWords (rowLength depth) (rowsOf m))
+-- The rows' words. Words of rows not in use are 0.
+abbrev pub rowsWords : ℕ → ℕ → Memory → List ℕ
+rowsWords rows depth m = padded (rowsLength rows depth) (allWords (rowLength depth) (rowsOf m))
+
+-- The labels of the open levels, the newest given first; in memory level 1 stands first. A label's word is 1 above it.
+abbrev pub openWords : List ℕ → List ℕ
+openWords [] = []
+openWords (a ∷ o) = openWords o ++ (suc a ∷ [])
+
+-- The labels' words. Words of levels not open are 0.
+abbrev pub labelsWords : ℕ → List ℕ → List ℕ
+labelsWords depth o = padded depth (openWords o)
+
+-- The whole of work memory.
+abbrev pub workWords : ℕ → ℕ → Memory → List ℕ → List ℕ
+workWords rows depth m o = rowsWords rows depth m ++ labelsWords depth o
 
 ---------------------------------------------------------------- the rows that words stand for
 
@@ -81,6 +94,16 @@ memoryIn depth d alive words =
       alive = heldsIn (rowLength depth) d alive (drop (rowLength depth) words);
     }
 
+---------------------------------------------------------------- the labels that words stand for
+
+-- The label that a word stands for, and the labels of d open levels, the newest first.
+abbrev pub labelIn : ℕ → ℕ
+labelIn x = x - 1
+
+abbrev pub openIn : List ℕ → ℕ → List ℕ
+openIn words zero = []
+openIn words (suc d) = labelIn (getD words (labelAt (suc d)) 0) ∷ openIn words d
+
 ---------------------------------------------------------------- words that can be stepped
 
 -- Words that are a row with newest level d, its states below n, and nothing else.
@@ -96,3 +119,9 @@ pub record RowsIn (n w d count : ℕ) (words : List ℕ) : Type 0 where
   pub deep : rowLength d ≤ w
   pub fits : count * w ≤ length words
   pub each : (r : ℕ) → r < count → RowIn n d (rowOf w r words)
+
+-- Labels' words of d open levels, and nothing else.
+pub record LabelsIn (d : ℕ) (words : List ℕ) : Type 0 where
+  pub short : length words ≤ 40
+  pub deep : d ≤ length words
+  pub same : words ≡ labelsWords (length words) (openIn words d)

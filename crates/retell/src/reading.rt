@@ -23,6 +23,9 @@ use slices::minus;
 use slices::plus;
 use slices::put;
 
+// The labelled close of label 0; those of the labels up to 31 follow it.
+pub const LABELLED: usize = 66;
+
 // What is said of a text: 0 taken, and how many events there are; 1 the names; 2 a byte, 3 an unknown name, 4 a closing name,
 // 5 the text ends, 6 deep, 7 short, and at which place. What is said of a stream: 0 taken, and how many bytes there are; 1 the
 // names; 2 it cannot go on, and at which place; 3 short.
@@ -131,14 +134,14 @@ fn first_fault(names: &[u8], text: &[u8], room: usize) -> Told {
     says(end_fault(text, room), text.len())
 }
 
-// The event of the tag whose ">" stands at a place.
+// The event of the tag whose ">" stands at a place; that of a closing tag is a labelled close.
 fn event_at(names: &[u8], text: &[u8], end: usize) -> usize {
     let tag = tag_of(text, end);
     let label = label_in(names, text, tag, end);
     match form_at(text, tag) {
         Form::Opening => label,
         Form::Empty => plus(32, label),
-        _ => 64,
+        _ => plus(LABELLED, label),
     }
 }
 

@@ -3,6 +3,7 @@
 use crate::list::is_good;
 use crate::list::lines;
 use crate::list::put_name;
+use crate::reading::LABELLED;
 use crate::reading::Told;
 use crate::reading::says;
 use crate::text::GREATER;
@@ -18,11 +19,23 @@ const CLOSE: usize = 64;
 
 const END: usize = 65;
 
+// A labelled close.
+pub fn is_labelled(event: usize) -> bool {
+    match event {
+        66..=97 => true,
+        _ => false,
+    }
+}
+
+fn is_close(event: usize) -> bool {
+    (event == CLOSE) | is_labelled(event)
+}
+
 // Where so many elements are open before an event: how many are after it.
 fn open_after(event: usize, open: usize) -> usize {
     if event < 32 {
         plus(open, 1)
-    } else if event == CLOSE {
+    } else if is_close(event) {
         minus(open, 1)
     } else {
         open
@@ -41,7 +54,7 @@ fn depth(events: &[u8], place: usize) -> usize {
 }
 
 // The label of the element that is open at a place: of the last that was opened with one fewer open. 0 where none is open.
-fn open_label(events: &[u8], place: usize) -> usize {
+pub fn open_label(events: &[u8], place: usize) -> usize {
     let level = depth(events, place);
     let mut label = 0;
     let mut open = 0;
@@ -57,11 +70,13 @@ fn open_label(events: &[u8], place: usize) -> usize {
     label
 }
 
-// The label of the tag that an event is written as.
+// The label of the tag that an event is written as: its own, and of a close without one that of the open element.
 pub fn label_at(events: &[u8], at: usize) -> usize {
     let event = get(events, at);
     if event < CLOSE {
         event % 32
+    } else if is_labelled(event) {
+        minus(event, LABELLED)
     } else {
         open_label(events, at)
     }
@@ -75,15 +90,23 @@ fn is_after_end(events: &[u8], at: usize) -> bool {
     get(events, at - 1) == END
 }
 
+// A close stands at a place where nothing is open, or with another label than the open element's.
+fn closes_wrong(events: &[u8], at: usize) -> bool {
+    let event = get(events, at);
+    let none = depth(events, at) == 0;
+    let other = label_at(events, at) != open_label(events, at);
+    is_close(event) & (none | other)
+}
+
 // No whole stream goes on with the event at a place.
 fn is_stuck(names: &[u8], events: &[u8], at: usize) -> bool {
     let event = get(events, at);
     let open = depth(events, at);
+    let unknown = (END < event) & !is_labelled(event);
     let nameless = (event < CLOSE) & (lines(names) <= event % 32);
     let deep = (event < 32) & (40 <= open);
-    let closed = (event == CLOSE) & (open == 0);
     let early = (event == END) & (open != 0);
-    is_after_end(events, at) | (END < event) | nameless | deep | closed | early
+    is_after_end(events, at) | unknown | nameless | deep | closes_wrong(events, at) | early
 }
 
 fn first_stuck(names: &[u8], events: &[u8]) -> Told {
@@ -109,13 +132,14 @@ fn put_if(asked: bool, text: &mut [u8], to: usize, byte: usize) -> usize {
     to
 }
 
-// The tag of an event, with the name of a label, at a place of the text; an end has none. Answers the place after it.
+// The tag of an event, with the name of a label, at a place of the text; an end and a byte of no meaning have none. Answers the
+// place after it.
 pub fn spell(names: &[u8], event: usize, label: usize, text: &mut [u8], to: usize) -> usize {
-    if CLOSE < event {
+    if (END <= event) & !is_labelled(event) {
         return to;
     }
     let begun = put_if(true, text, to, LESS);
-    let from = put_if(event == CLOSE, text, begun, SLASH);
+    let from = put_if(is_close(event), text, begun, SLASH);
     let named = put_name(names, label, text, from);
     let ended = put_if((32 <= event) & (event < CLOSE), text, named, SLASH);
     put_if(true, text, ended, GREATER)
@@ -184,4 +208,23 @@ pub fn write_on(names: &[u8], events: &[u8], out: &mut [u8]) -> Told {
         return says(2, end);
     }
     says(0, end)
+}
+
+// The event that the tag of the one at a place is read as: a close is labelled.
+fn labelled_at(events: &[u8], at: usize) -> usize {
+    let event = get(events, at);
+    if event == CLOSE {
+        plus(LABELLED, open_label(events, at))
+    } else {
+        event
+    }
+}
+
+// A whole stream with each close labelled, as it is read back from its tags, from the front of the output.
+pub fn label_closes(events: &[u8], out: &mut [u8]) {
+    let mut at = 0;
+    while at < events.len() {
+        put(out, at, labelled_at(events, at));
+        at += 1;
+    }
 }

@@ -3,6 +3,8 @@
 // The book has the table laid out, then the stream that was taken, then a verdict for each position. The verdicts of the next
 // event are worked out behind those that stand, and take their place where the event is taken. There is room for 1,023
 // positions.
+use crate::levels::is_close;
+use crate::levels::levels_of;
 use crate::order::Claim;
 use crate::run::ALIVE;
 use crate::run::CERTAIN;
@@ -11,15 +13,17 @@ use crate::run::last_verdict;
 use crate::run::run_of;
 use crate::run::verdict;
 use slices::get;
+use slices::minus;
 use slices::plus;
 use slices::put;
+use slices::word;
 
 const VERDICTS: usize = 9216;
 
 const NEXT: usize = 10240;
 
 // The record that the watch must have, what was taken, and where the stream began: the table's labels, its start state, and
-// the positions that were read before.
+// the positions that were read before. Last, the words of the levels that the watch must have.
 pub struct Seen {
     pub claim: Claim,
     pub labels: usize,
@@ -27,6 +31,7 @@ pub struct Seen {
     pub before: u64,
     pub events: usize,
     pub positions: usize,
+    pub levels: [u64; 40],
 }
 
 // What must come of an event: 0 or the refusal's number, the number of reports, and what is seen then.
@@ -62,6 +67,7 @@ pub fn begin(rows: u64, allowed: u64, before: u64, labels: usize, start: usize) 
         before: before,
         events: 0,
         positions: 0,
+        levels: [0; 40],
     }
 }
 
@@ -82,7 +88,7 @@ impl Claim {
         if byte < 64 {
             self.positions = one_more(self.positions);
         }
-        if byte == 64 {
+        if is_close(byte) {
             self.depth = one_less(self.depth);
         }
         self.finished = byte == 65;
@@ -96,18 +102,36 @@ impl Claim {
 }
 
 impl Seen {
-    fn after(self, byte: usize) -> Seen {
+    // The word of the newest level, 0 where nothing is open.
+    fn newest_level(self) -> u64 {
+        let claim = self.claim;
+        let levels = self.levels;
+        word(&levels, minus(claim.depth as usize, 1))
+    }
+
+    // The byte that closes the newest level and names its label; where nothing is open, one that names label 0.
+    pub fn closing(self) -> usize {
+        let newest = self.newest_level();
+        plus(66, minus(newest as usize, 1))
+    }
+
+    // What is seen with an event more, which goes into the book; its alive count apart.
+    fn after(self, book: &mut [u8], byte: usize) -> Seen {
+        put(book, plus(STREAM, self.events), byte);
         let mut positions = self.positions;
         if byte < 64 {
             positions = plus(positions, 1);
         }
+        let claim = self.claim.after(byte);
+        let events = plus(self.events, 1);
         Seen {
-            claim: self.claim.after(byte),
+            claim: claim,
             labels: self.labels,
             start: self.start,
             before: self.before,
-            events: plus(self.events, 1),
+            events: events,
             positions: positions,
+            levels: levels_of(book, events, claim.depth as usize),
         }
     }
 
@@ -194,16 +218,16 @@ fn refuses(seen: Seen, number: u64) -> Said {
     }
 }
 
-// One event byte: the refusal that falls, 8 to 15, or the reports that must come, in `must`.
+// One event byte: the refusal that falls, 8 to 16, or the reports that must come, in `must`.
 pub fn follow(book: &mut [u8], reach: &[u64], must: &mut [u32], seen: Seen, byte: usize) -> Said {
-    let number = seen.claim.byte_refusal(seen.labels, byte);
+    let claim = seen.claim;
+    let number = claim.byte_refusal(seen.labels, seen.newest_level(), byte);
     if number != 0 {
         return refuses(seen, number);
     }
-    put(book, plus(STREAM, seen.events), byte);
-    let read = seen.after(byte);
+    let read = seen.after(book, byte);
     let alive = judge_all(read, book, reach);
-    if seen.claim.rows < alive {
+    if claim.rows < alive {
         return refuses(seen, 15);
     }
     Said {

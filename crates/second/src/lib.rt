@@ -3,12 +3,14 @@
 // It reads the same table files and streams, by other means. It has no selecting or rejecting sets and no rows: it keeps the
 // whole stream, and to judge a position it runs the stream anew with the mark there, works out in which states some
 // completion can end, from the newest level down, and looks whether all of them are final, or none is. Which state some
-// hedge can take to which is found by saturation over all pairs. Files, records and memories are judged word by word.
+// hedge can take to which is found by saturation over all pairs. The label that opened a level is found by going back in the
+// stream. Files, records and memories are judged word by word.
 //
 // Its memory is lent: a book of 11,264 bytes, of which `events` says what stands where, and a word for each of 64 states. Nothing
 // is assumed of a caller. What is out of reach reads as 0, and is not written.
 mod events;
 mod file;
+mod levels;
 mod order;
 mod reach;
 mod run;
@@ -22,6 +24,7 @@ pub use file::file_refusal;
 pub use file::labels;
 pub use file::states;
 pub use file::unfold;
+pub use levels::step_levels;
 pub use order::Claim;
 pub use order::Found;
 pub use order::call_refusal;

@@ -1,11 +1,17 @@
-// Any call judged by 01's lines, 15 apart, which only who follows the stream can tell.
+// Any call judged by the lines of 01 and 02, 15 apart, which only who follows the stream can tell.
 //
-// A word of memory is judged by its place alone: its row and column follow by division.
+// A word of memory is judged by its place alone: it is one of the last, which are the levels', or its row and column follow
+// by division.
 use crate::file::file_refusal;
 use crate::file::is_product;
 use crate::file::labels;
 use crate::file::line;
 use crate::file::states;
+use crate::levels::is_close;
+use crate::levels::is_named_close;
+use crate::levels::label_of;
+use slices::minus;
+use slices::plus;
 use slices::word;
 
 // What a caller's record says.
@@ -44,6 +50,11 @@ fn row_words(allowed: u64) -> usize {
     3 * (allowed as usize) + 4
 }
 
+// Where the levels' words begin: there is one for each allowed level, at the end.
+fn levels_at(allowed: u64, work: usize) -> usize {
+    minus(work, allowed as usize)
+}
+
 // Rows, depth and the length of work are not as they must be.
 fn is_misfit(rows: u64, allowed: u64, work: usize) -> bool {
     if rows < 1 {
@@ -52,7 +63,11 @@ fn is_misfit(rows: u64, allowed: u64, work: usize) -> bool {
     if 64 < rows {
         return true;
     }
-    !is_product(work, rows as usize + 1, row_words(allowed))
+    !is_product(
+        levels_at(allowed, work),
+        rows as usize + 1,
+        row_words(allowed),
+    )
 }
 
 impl Claim {
@@ -80,11 +95,23 @@ impl Claim {
         ((column - 1) % 3 != 0) | (x < n as u64)
     }
 
-    // The word at a place is in order.
-    fn fits(self, n: usize, work: &[u64], at: usize) -> bool {
+    // The word of a level, counted from 0, for a table of k labels.
+    fn fits_level(self, k: usize, x: u64, level: usize) -> bool {
+        if self.depth <= level as u64 {
+            return x == 0;
+        }
+        (1 <= x) & (x <= k as u64)
+    }
+
+    // The word at a place is in order, for a table of n states and k labels.
+    fn fits(self, n: usize, k: usize, work: &[u64], at: usize) -> bool {
         let width = row_words(self.allowed);
         if width == 0 {
             return true;
+        }
+        let levels = levels_at(self.allowed, work.len());
+        if levels <= at {
+            return self.fits_level(k, word(work, at), at - levels);
         }
         if self.finished | (self.alive < (at / width) as u64) {
             return word(work, at) == 0;
@@ -93,12 +120,12 @@ impl Claim {
     }
 
     // The first word out of order, or the length of work. The search goes down from the last word.
-    fn first_fault(self, n: usize, work: &[u64]) -> usize {
+    fn first_fault(self, n: usize, k: usize, work: &[u64]) -> usize {
         let mut fault = work.len();
         let mut at = work.len();
         while 0 < at {
             at -= 1;
-            if !self.fits(n, work, at) {
+            if !self.fits(n, k, work, at) {
                 fault = at;
             }
         }
@@ -106,24 +133,33 @@ impl Claim {
     }
 
     // The place that 7 has, if it falls.
-    fn fault(self, n: usize, work: &[u64]) -> usize {
+    fn fault(self, n: usize, k: usize, work: &[u64]) -> usize {
         if self.is_broken() {
             work.len()
         } else {
-            self.first_fault(n, work)
+            self.first_fault(n, k, work)
         }
     }
 
-    // 8 to 14.
-    pub fn byte_refusal(self, k: usize, byte: usize) -> u64 {
+    // The word of the newest level in memory; where nothing is open, that of the first.
+    fn newest_level(self, work: &[u64]) -> u64 {
+        let newest = minus(self.depth as usize, 1);
+        word(work, plus(levels_at(self.allowed, work.len()), newest))
+    }
+
+    // 8 to 14 and 16, by the word of the newest level.
+    pub fn byte_refusal(self, k: usize, newest: u64, byte: usize) -> u64 {
         let is_open = byte < 32;
         let is_position = byte < 64;
+        let is_named = is_named_close(byte);
+        let label = label_of(byte);
         let last = line(is_position & (LAST_POSITION <= self.positions), 14, 0);
         let end = line((byte == 65) & (self.depth != 0), 13, last);
         let deep = line(is_open & (self.allowed <= self.depth), 12, end);
-        let close = line((byte == 64) & (self.depth == 0), 11, deep);
-        let label = line(is_position & (k <= byte % 32), 10, close);
-        line(self.finished, 8, line(65 < byte, 9, label))
+        let wrong = line(is_named & (newest != plus(label, 1) as u64), 16, deep);
+        let close = line(is_close(byte) & (self.depth == 0), 11, wrong);
+        let strange = line((is_position | is_named) & (k <= label), 10, close);
+        line(self.finished, 8, line(97 < byte, 9, strange))
     }
 }
 
@@ -147,18 +183,19 @@ fn size_refusal(file: &[u8], claim: Claim, work: usize, reports: usize) -> u64 {
     )
 }
 
-// 1 to 14 of an event.
+// 1 to 14 and 16 of an event.
 pub fn call_refusal(file: &[u8], claim: Claim, work: &[u64], reports: usize, byte: usize) -> Found {
     let sizes = size_refusal(file, claim, work.len(), reports);
     if sizes != 0 {
         return numbered(sizes);
     }
-    let fault = claim.fault(states(file), work);
+    let k = labels(file);
+    let fault = claim.fault(states(file), k, work);
     if claim.is_broken() | (fault < work.len()) {
         return Found {
             number: 7,
             place: fault,
         };
     }
-    numbered(claim.byte_refusal(labels(file), byte))
+    numbered(claim.byte_refusal(k, claim.newest_level(work), byte))
 }

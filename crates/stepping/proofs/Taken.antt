@@ -9,8 +9,8 @@ use lib.ListN.{length, getD, take, drop, replicate, length-drop, replicate-appen
 use lib.Seq.{take-at, drop-at, drop-drop}
 use Rattle.meaning.specs.Table.{Table, WellFormed}
 use Rattle.meaning.specs.Streams.{Event, Open, Point, Close}
-use Rattle.places.specs.Places.{positionAt, rowLength, rowAt, workLength, rowOf, padded}
-use Rattle.places.specs.Memory.{Held, rowWords, each, allWords, rowIn, heldsIn, memoryIn, workWords, RowIn, RowsIn}
+use Rattle.places.specs.Places.{positionAt, rowLength, rowAt, rowsLength, rowOf, padded}
+use Rattle.places.specs.Memory.{Held, rowWords, each, allWords, rowIn, heldsIn, memoryIn, rowsWords, RowIn, RowsIn}
 use Rattle.places.proofs.Good.{Good, AllGood, first-row, later-rows, rows-of, helds-back, all-length, next-row-of, helds-length, held-back}
 use Rattle.places.proofs.Good as good
 use Rattle.places.proofs.Rows.{each-append}
@@ -180,12 +180,12 @@ module _ (t : Table) (wf : WellFormed t) (accs : List ℕ) (e : Event) (rows dep
             ∙ ap (λ i. i * rowLength depth) (sym (add-one (length (leftOf older))))
 
         -- With no new row.
-        pub none-added : length now ≡ workLength rows depth → now ≡ workWords rows depth (record { run = run .row; alive = leftOf older })
+        pub none-added : length now ≡ rowsLength rows depth → now ≡ rowsWords rows depth (record { run = run .row; alive = leftOf older })
         none-added l = words-back rows depth room (record { run = run .row; alive = leftOf older }) now is-now l
 
         -- With rows put after those left.
-        pub some-added : (more : List Held) (last : List ℕ) → last ≡ putAt ((length (leftOf older) + 1) * rowLength depth) (allWords (rowLength depth) more) now → length last ≡ workLength rows depth
-            → last ≡ workWords rows depth (record { run = run .row; alive = leftOf older ++ more })
+        pub some-added : (more : List Held) (last : List ℕ) → last ≡ putAt ((length (leftOf older) + 1) * rowLength depth) (allWords (rowLength depth) more) now → length last ≡ rowsLength rows depth
+            → last ≡ rowsWords rows depth (record { run = run .row; alive = leftOf older ++ more })
         some-added more last put l =
             let w : ℕ = rowLength depth in
             let xs : List ℕ = allWords w (run ∷ leftOf older) in

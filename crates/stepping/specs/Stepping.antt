@@ -1,4 +1,4 @@
--- What an event makes of the whole work memory (01, "Record and work memory"). Definitions only.
+-- What an event makes of all rows (01, "Record and work memory"). Definitions only.
 use mathlib.Core.List.{List, [], _∷_, _++_, map}
 use mathlib.Core.Path.{_≡_}
 use Prim.Native.Nat.{ℕ, _+_, _-_, _<_, _≤_}
@@ -7,7 +7,7 @@ use Rattle.meaning.specs.Table.{Table}
 use Rattle.meaning.specs.Masks.{accsOf}
 use Rattle.meaning.specs.Streams.{Event, Open, Point, Close}
 use Rattle.meaning.specs.Rows.{Row, startRow, markRow}
-use Rattle.places.specs.Places.{positionAt, rowLength, rowAt, workLength, rowOf}
+use Rattle.places.specs.Places.{positionAt, rowLength, rowAt, rowsLength, rowOf}
 use Rattle.places.specs.Memory.{Held, Memory, RowsIn}
 use Rattle.rows.specs.Steps.{stepRow, onRow}
 use Rattle.reports.specs.Reports.{reportsOf, leftOf}
@@ -55,14 +55,14 @@ Moves (Open a) d = d < 40
 Moves (Point a) d = Unit {0}
 Moves Close d = 0 < d
 
--- Words that are a work memory with that number of rows, depth allowed, depth now and alive count, its states below n
+-- Words that are the rows' words of a work memory with that number of rows, depth allowed, depth now and alive count, its states below n
 -- and its positions small enough to report; words not in use are 0.
 pub record Stands (n rows depth d alive : ℕ) (words : List ℕ) : Type 0 where
   pub few-rows : rows ≤ 64
   pub few-levels : depth ≤ 40
   pub deep : d ≤ depth
   pub room : alive ≤ rows
-  pub size : length words ≡ workLength rows depth
+  pub size : length words ≡ rowsLength rows depth
   pub rows-in : RowsIn n (rowLength depth) d (alive + 1) words
   pub rest : drop (rowAt depth (alive + 1)) words ≡ replicate (length words - rowAt depth (alive + 1)) 0
   pub run-position : getD words positionAt 0 ≡ 0

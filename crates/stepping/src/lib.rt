@@ -1,7 +1,7 @@
-// One event on the whole of work memory: would there be room, the step with its reports, the end, and the start.
+// One event on all rows: would there be room, the step with its reports, the end, and the start.
 //
-// Functions here ask for words that are a work memory (`Stands`), but for the start, which asks for their number only.
-// Each leaves the words of the rows that the rules name.
+// The words here are the rows' words of work memory alone. Functions ask that they are such (`Stands`), but for the start,
+// which asks for their number only. Each leaves the words of the rows that the rules name.
 ghost use mathlib.Core.Path.{_≡_};
 ghost use Prim.Native.Nat.{ℕ, _+_, _*_, _<_, _≤_};
 ghost use lib.Dec.{ltb};
@@ -9,8 +9,8 @@ ghost use lib.ListN.{length, getD, drop, replicate};
 ghost use Rattle.meaning.specs.Table.{tableOf};
 ghost use Rattle.meaning.specs.Masks.{accsOf};
 ghost use Rattle.bodies.specs.Sound.{Sound};
-ghost use Rattle.places.specs.Places.{positionAt, rowLength, rowOf, workLength};
-ghost use Rattle.places.specs.Memory.{rowIn, memoryIn, allWords, workWords, RowIn, RowsIn};
+ghost use Rattle.places.specs.Places.{positionAt, rowLength, rowOf, rowsLength};
+ghost use Rattle.places.specs.Memory.{rowIn, memoryIn, allWords, rowsWords, RowIn, RowsIn};
 ghost use Rattle.rows.specs.Steps.{eventOf, Can, depthAfter};
 ghost use Rattle.reports.specs.Reports.{reportOf, reportsOf, leftOver, leftOf, endReports};
 ghost use Rattle.meaning.specs.Lent.{putAt, onFront};
@@ -26,9 +26,9 @@ pub struct Counts {
 // The memory of a watch that has read nothing. Old contents do not matter.
 pub fn start_memory(work: &mut [u64], table: &[u8], accs: &[u64; 64], rows: usize, depth: usize)
     requires { ⌜ Sound (now table) ⌝ }
-    requires { ⌜ (rows ≤ 64) × (depth ≤ 40) × (length (now work) ≡ workLength rows depth) ⌝ }
+    requires { ⌜ (rows ≤ 64) × (depth ≤ 40) × (length (now work) ≡ rowsLength rows depth) ⌝ }
     requires { ⌜ now accs ≡ accsOf (tableOf (now table)) ⌝ }
-    ensures { λ _. ⌜ now (work .exit) ≡ workWords rows depth (startMemory (tableOf (now (table .entry)))) ⌝ }
+    ensures { λ _. ⌜ now (work .exit) ≡ rowsWords rows depth (startMemory (tableOf (now (table .entry)))) ⌝ }
 {
     let n = bodies::states(table);
     words::clear(work);
@@ -137,7 +137,7 @@ pub fn take_step(
     requires { ⌜ rows < length (now reports) ⌝ }
     requires { ⌜ length (leftOf (stepMemory (tableOf (now table)) (now accs) (eventOf step) positions (memoryIn depth d alive (now work)) .alive)) ≤ rows ⌝ }
     ensures { λ r. ⌜ r ≡ countsOf (stepMemory (tableOf (now (table .entry))) (now (accs .entry)) (eventOf step) positions (memoryIn depth d alive (now (work .entry)))) ⌝ }
-    ensures { λ _. ⌜ now (work .exit) ≡ workWords rows depth (leftMemory (stepMemory (tableOf (now (table .entry))) (now (accs .entry)) (eventOf step) positions (memoryIn depth d alive (now (work .entry))))) ⌝ }
+    ensures { λ _. ⌜ now (work .exit) ≡ rowsWords rows depth (leftMemory (stepMemory (tableOf (now (table .entry))) (now (accs .entry)) (eventOf step) positions (memoryIn depth d alive (now (work .entry))))) ⌝ }
     ensures { λ _. ⌜ now (reports .exit) ≡ onFront (reportsOf (stepMemory (tableOf (now (table .entry))) (now (accs .entry)) (eventOf step) positions (memoryIn depth d alive (now (work .entry))) .alive)) (now (reports .entry)) ⌝ }
 {
     let w = places::row_length(depth);

@@ -6,7 +6,7 @@ use mathlib.Core.List.{List, [], _∷_, _++_}
 use Prim.Native.Nat.{ℕ, zero, suc, _+_, _-_, _%_, _<_, _≤_}
 use native.Mathlib.Nat.{mod-eq-of-lt}
 use native.Mathlib.Omega.{arith}
-use borrow.Author.Tests.{ltb-true, eq-eqb, ne-eqb, eqb-true, eqb-false}
+use borrow.Author.Tests.{ltb-true, ne-eqb}
 use lib.Dec.{eqb, ltb}
 use lib.ListN.{length, getD}
 use Rattle.grammar.specs.declared.Fault.{Fault}
@@ -24,6 +24,7 @@ use Rattle.names.specs.declared.Label.{Label}
 use Rattle.names.specs.declared.Label.the-variants as label
 use Rattle.names.specs.Words.{noWord, withByte, labelIn, labelled, known}
 use Rattle.names.proofs.Classes.{class-blank, class-letter, class-name, class-less, class-slash, class-greater}
+use Rattle.names.proofs.Finding.{eqb-turned}
 use Rattle.names.proofs.Spelling.{Spells, spells-none, spells-more}
 use Rattle.names.proofs.Seeking.{label-of-spelt}
 use Rattle.names.proofs.Listing.{good-known}
@@ -74,14 +75,11 @@ closed-is s = ap₂ (λ (t u : Bool). t && u) (closed-begun (s .tag)) (ap (λ (n
 abbrev stepBy : Stepped → Step Cursor
 stepBy x = record { next = x .next; gives = givenBy (x .outcome); stops = stopBy (x .outcome) }
 
-eqb-turn : (m n : ℕ) → eqb m n ≡ eqb n m
-eqb-turn m n = go (eqb n m) refl
-  where
-    go : (t : Bool) → eqb n m ≡ t → eqb m n ≡ t
-    go true e = eq-eqb m n (sym (eqb-true n m e))
-    go false e = ne-eqb m n (λ h. eqb-false n m e (sym h))
-
 module _ {k : ℕ} (few : k ≤ 32) {c : Cursor} {p : Place} (s : Stands k c p) where
+  -- A label is its own remainder.
+  below-32 : (a : ℕ) → a < k → a % 32 ≡ a
+  below-32 a h = mod-eq-of-lt (omega arith)
+
   agree-fault : (f : Fault) → StepsAgree (Stands k) (stepBy (faulted c f)) (stopped p f)
   agree-fault f = record { gives = refl; stops = refl; next = s }
 
@@ -102,9 +100,7 @@ module _ {k : ℕ} (few : k ≤ 32) {c : Cursor} {p : Place} (s : Stands k c p) 
       (agree-fault fault.Deep)
 
   agree-point : (a : ℕ) (x : List ℕ) → a < k → StepsAgree (Stands k) (stepBy (judgeIn within.Empty c a)) (judge p a (Tag.empty x))
-  agree-point a x h =
-      let m : a % 32 ≡ a = mod-eq-of-lt (omega arith) in
-      rw m (agree-tag (32 + a) (s .levels) (s .kept))
+  agree-point a x h = rw (below-32 a h) (agree-tag (32 + a) (s .levels) (s .kept))
 
   agree-close : (a : ℕ) (x : List ℕ) → a < k → StepsAgree (Stands k) (stepBy (judgeIn within.Closing c a)) (judge p a (Tag.closing x))
   agree-close a x h = go (c .levels .depth) refl
@@ -114,16 +110,16 @@ module _ {k : ℕ} (few : k ≤ 32) {c : Cursor} {p : Place} (s : Stands k c p) 
           let none : p .levels ≡ [] = s .levels ∙ ap (λ (n : ℕ). openFrom (c .levels .labels) n) e in
           let far : eqb (newestOf (c .levels)) a ≡ false = rw e (ne-eqb 255 a (λ q. omega arith)) in
           subst (λ (o : List ℕ). StepsAgree (Stands k) (stepBy (judgeIn within.Closing c a)) (close p a o)) (sym none)
-          (subst (λ (t : Bool). StepsAgree (Stands k) (stepBy (cond t (tagAt (shallower (c .levels)) 64) (faulted c fault.Closing))) (stopped p fault.Closing))
+          (subst (λ (t : Bool). StepsAgree (Stands k) (stepBy (cond t (tagAt (shallower (c .levels)) (66 + a % 32)) (faulted c fault.Closing))) (stopped p fault.Closing))
           (sym far) (agree-fault fault.Closing))
       go (suc d) e =
           let newest = getD (c .levels .labels) d 0 in
           let others = openFrom (c .levels .labels) d in
           let some : p .levels ≡ newest ∷ others = s .levels ∙ ap (λ (n : ℕ). openFrom (c .levels .labels) n) e in
-          let test : eqb (newestOf (c .levels)) a ≡ eqb a newest = ap (λ (n : ℕ). eqb n a) (newest-is (s .kept) d e) ∙ eqb-turn newest a in
+          let test : eqb (newestOf (c .levels)) a ≡ eqb a newest = ap (λ (n : ℕ). eqb n a) (newest-is (s .kept) d e) ∙ eqb-turned newest a in
           subst (λ (o : List ℕ). StepsAgree (Stands k) (stepBy (judgeIn within.Closing c a)) (close p a o)) (sym some)
           (agree-by (λ x y. StepsAgree (Stands k) (stepBy x) y) (eqb (newestOf (c .levels)) a) (eqb a newest) test
-          (λ t. agree-tag 64 (sym (open-shallower (s .kept) d e)) (kept-shallower (s .kept)))
+          (λ t. rw (below-32 a h) (agree-tag (66 + a) (sym (open-shallower (s .kept) d e)) (kept-shallower (s .kept))))
           (agree-fault fault.Closing))
 
   module _ (names : List ℕ) (good : goodNames names ≡ true) (count : length (linesOf names) ≡ k) where

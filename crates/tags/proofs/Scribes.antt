@@ -1,7 +1,7 @@
 -- The writer's steps are the writing of `grammar`, where the list of names is good: from states that are related, events
 -- give the same bytes and are at fault alike. Assumes nothing.
-use mathlib.Core.Path.{_≡_, refl, sym, ap, ap₂, _∙_}
-use mathlib.Core.Bool.{Bool, true, false, _&&_}
+use mathlib.Core.Path.{_≡_, refl, sym, ap, ap₂, subst, _∙_}
+use mathlib.Core.Bool.{Bool, true, false, cond, _&&_}
 use mathlib.Core.List.{List, [], _∷_}
 use Prim.Native.Nat.{ℕ, zero, suc, _%_, _<_}
 use native.Mathlib.Nat.{mod-eq-of-lt}
@@ -17,16 +17,17 @@ use Rattle.grammar.specs.declared.Fault.the-variants as fault
 use Rattle.grammar.specs.Names.{isName, nameAt, linesOf, goodNames}
 use Rattle.grammar.specs.Tags.{Tag, tagText}
 use Rattle.grammar.specs.Feeding.{Step, stopped, stepped, feed, roomed}
-use Rattle.grammar.specs.Writing.{Written, unwritten, afterTag, closeTag, writeEvent, writeStep}
+use Rattle.grammar.specs.Writing.{Written, unwritten, afterTag, closeTag, closeOfTag, writeEvent, writeStep}
 use Rattle.grammar.proofs.Names.{GoodList, good-list}
 use Rattle.names.specs.Words.{spelt, wordAt}
+use Rattle.names.proofs.Finding.{eqb-turned}
 use Rattle.names.proofs.Spelling.{Spells, spelt-is, length-short}
 use Rattle.names.proofs.Naming.{word-spells, no-word}
 use Rattle.tags.specs.declared.writer.Scribe.{Scribe}
 use Rattle.tags.specs.declared.writer.Form.the-variants as form
 use Rattle.tags.specs.declared.writer.Spelled.{Spelled}
 use Rattle.tags.specs.Levels.{deeperBy, shallower, newestOf, openFrom, openIn}
-use Rattle.tags.specs.Writers.{begin, wrong, ended, written, hasName, closeEvent, eventStep, spellStep, givesBy, stopBy, scribeStep, followIn, writeIn}
+use Rattle.tags.specs.Writers.{begin, wrong, ended, written, hasName, closeEvent, closeOfEvent, eventStep, spellStep, givesBy, stopBy, scribeStep, followIn, writeIn}
 use Rattle.tags.proofs.Agreeing.{StepsAgree, FeedsAgree, agree-by, agree-feed, InRoom, agree-roomed}
 use Rattle.tags.proofs.Opened.{Kept, kept-none, open-length, open-deeper, kept-deeper, kept-shallower, newest-is, open-shallower}
 
@@ -119,15 +120,18 @@ module _ (names : List ℕ) (good : goodNames names ≡ true) where
         (agree-wrong h)
 
     -- With nothing open there is no newest; else the newest is closed.
+    none-open : s .levels .depth ≡ 0 → closeEvent names s ≡ wrong s
+    none-open e =
+        let none : newestOf (s .levels) ≡ 255 = rw e in
+        rw none
+
     agree-close : Agrees (length ns) (eventStep names s event.Close) (writeEvent ns w event.Close)
     agree-close = go (s .levels .depth) refl
       where
         go : (d : ℕ) → s .levels .depth ≡ d → Agrees (length ns) (closeEvent names s) (closeTag ns w (w .levels))
         go zero e =
-            let none : newestOf (s .levels) ≡ 255 = rw e in
-            let q : closeEvent names s ≡ wrong s = rw none in
             let o : closeTag ns w (w .levels) ≡ stopped w fault.Byte = ap (closeTag ns w) (h .levels ∙ ap (openFrom (s .levels .labels)) e) in
-            rw (q, o) (agree-wrong h)
+            rw (none-open e, o) (agree-wrong h)
         go (suc d) e =
             let l : getD (s .levels .labels) d 0 < length ns = h .kept .known d (omega arith) in
             let t : hasName (wordAt names (getD (s .levels .labels) d 0)) ≡ true = has-name (getD (s .levels .labels) d 0) ∙ lt-ltb (getD (s .levels .labels) d 0) (length ns) l in
@@ -141,10 +145,32 @@ module _ (names : List ℕ) (good : goodNames names ≡ true) where
               next = record { levels = sym (open-shallower (h .kept) d e); ended = refl; kept = kept-shallower (h .kept) };
             })
 
+    -- A close that names a label does so too, where that is the newest's.
+    agree-close-of : (a : ℕ) → Agrees (length ns) (eventStep names s (event.CloseOf a)) (writeEvent ns w (event.CloseOf a))
+    agree-close-of a = go (s .levels .depth) refl
+      where
+        go : (d : ℕ) → s .levels .depth ≡ d → Agrees (length ns) (closeOfEvent names s a) (closeOfTag ns w a (w .levels))
+        go zero e =
+            let o : closeOfTag ns w a (w .levels) ≡ stopped w fault.Byte = ap (closeOfTag ns w a) (h .levels ∙ ap (openFrom (s .levels .labels)) e) in
+            rw (none-open e, o) (either (eqb (newestOf (s .levels)) a))
+          where
+            either : (t : Bool) → Agrees (length ns) (cond t (wrong s) (wrong s)) (stopped w fault.Byte)
+            either true = agree-wrong h
+            either false = agree-wrong h
+        go (suc d) e =
+            let c = getD (s .levels .labels) d 0 in
+            let o : w .levels ≡ c ∷ openFrom (s .levels .labels) d = h .levels ∙ ap (openFrom (s .levels .labels)) e in
+            let test : eqb (newestOf (s .levels)) a ≡ eqb a c = ap (λ (n : ℕ). eqb n a) (newest-is (h .kept) d e) ∙ eqb-turned c a in
+            subst (λ (l : List ℕ). Agrees (length ns) (closeOfEvent names s a) (closeOfTag ns w a l)) (sym o)
+            (agree-by (Agrees (length ns)) (eqb (newestOf (s .levels)) a) (eqb a c) test
+            (λ t. subst (λ (l : List ℕ). Agrees (length ns) (closeEvent names s) (closeTag ns w l)) o agree-close)
+            (agree-wrong h))
+
     agree-event : (e : Event) → Agrees (length ns) (eventStep names s e) (writeEvent ns w e)
     agree-event (event.Open a) = agree-open a
     agree-event (event.Point a) = agree-point a
     agree-event event.Close = agree-close
+    agree-event (event.CloseOf a) = agree-close-of a
     agree-event event.End = agree-end
     agree-event event.Unknown = agree-wrong h
 

@@ -20,7 +20,7 @@ use Rattle.tags.specs.declared.writer.Form.{Form}
 use Rattle.tags.specs.declared.writer.Form.the-variants as form
 use Rattle.tags.specs.declared.writer.Given.the-variants as given
 use Rattle.tags.specs.Levels.{newestOf, deeperBy, shallower}
-use Rattle.tags.specs.Writers.{wrong, ended, written, hasName, eventStep, spellStep, Writable, tagBytes, tagLength}
+use Rattle.tags.specs.Writers.{wrong, ended, written, hasName, closeEvent, eventStep, spellStep, Writable, tagBytes, tagLength}
 
 -- A tag's length, by its name's.
 pub tag-length : (f : Form) (w : Word) → Writable w → tagLength f w ≡ length (tagBytes f w)
@@ -75,12 +75,20 @@ tested names a false s l f h = none-writable
 pub spelled-writable : (names : List ℕ) (s : Scribe) (b : ℕ) → Writable (spellStep names s b .name)
 spelled-writable names s b = go (s .ended)
   where
+    closes : Writable (closeEvent names s .name)
+    closes = tested names (newestOf (s .levels)) (hasName (wordAt names (newestOf (s .levels)))) s (shallower (s .levels)) form.Closing (λ e. e)
+
     by : (e : Event) → Writable (eventStep names s e .name)
     by (event.Open a) =
         tested names a (hasName (wordAt names a) && ltb (s .levels .depth) 40) s (deeperBy (s .levels) _) form.Opening
         (λ e. both-true (hasName (wordAt names a)) (ltb (s .levels .depth) 40) e .0)
     by (event.Point a) = tested names a (hasName (wordAt names a)) s (s .levels) form.Empty (λ e. e)
-    by event.Close = tested names (newestOf (s .levels)) (hasName (wordAt names (newestOf (s .levels)))) s (shallower (s .levels)) form.Closing (λ e. e)
+    by event.Close = closes
+    by (event.CloseOf a) = names-it (eqb (newestOf (s .levels)) a)
+      where
+        names-it : (t : Bool) → Writable (cond t (closeEvent names s) (wrong s) .name)
+        names-it true = closes
+        names-it false = none-writable
     by event.End = ends (eqb (s .levels .depth) 0)
       where
         ends : (t : Bool) → Writable (cond t (record { next = record { levels = s .levels; ended = true }; given = given.Nothing; name = noWord }) (wrong s) .name)

@@ -44,7 +44,7 @@ abbrev pub openStep : Cursor → ℕ → Stepped
 openStep c a = cond (ltb (c .levels .depth) 40) (tagAt (deeperBy (c .levels) a) a) (faulted c fault.Deep)
 
 abbrev pub closeStep : Cursor → ℕ → Stepped
-closeStep c a = cond (eqb (newestOf (c .levels)) a) (tagAt (shallower (c .levels)) 64) (faulted c fault.Closing)
+closeStep c a = cond (eqb (newestOf (c .levels)) a) (tagAt (shallower (c .levels)) (66 + a % 32)) (faulted c fault.Closing)
 
 abbrev pub pointStep : Cursor → ℕ → Stepped
 pointStep c a = tagAt (c .levels) (32 + a % 32)

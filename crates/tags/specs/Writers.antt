@@ -63,10 +63,15 @@ closeEvent names s =
     (written (shallower (s .levels)) form.Closing (wordAt names (newestOf (s .levels))))
     (wrong s)
 
+-- A close that names a label: the newest's.
+abbrev pub closeOfEvent : List ℕ → Scribe → ℕ → Spelled
+closeOfEvent names s a = cond (eqb (newestOf (s .levels)) a) (closeEvent names s) (wrong s)
+
 abbrev pub eventStep : List ℕ → Scribe → Event → Spelled
 eventStep names s (event.Open a) = openEvent names s a
 eventStep names s (event.Point a) = pointEvent names s a
 eventStep names s event.Close = closeEvent names s
+eventStep names s (event.CloseOf a) = closeOfEvent names s a
 eventStep names s event.End = ended s
 eventStep names s event.Unknown = wrong s
 

@@ -122,13 +122,14 @@ fn open_step(cursor: Cursor, label: u8) -> Stepped
     }
 }
 
-// A closing tag of a known name.
+// A closing tag of a known name gives the close that names its label, which is below 32; one that is not is taken for its
+// remainder.
 fn close_step(cursor: Cursor, label: u8) -> Stepped
     ensures { λ r. ⌜ r ≡ closeStep cursor label ⌝ }
 {
     let levels = cursor.levels;
     if levels.newest() == label {
-        tag_at(levels.shallower(), 64)
+        tag_at(levels.shallower(), 66 + label % 32)
     } else {
         cursor.fault(Fault::Closing)
     }

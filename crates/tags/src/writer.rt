@@ -8,7 +8,7 @@ ghost use lib.ListN.{length};
 ghost use Rattle.grammar.specs.Feeding.{goesOn};
 ghost use Rattle.grammar.specs.Writing.{writeAnswer, writeOut};
 ghost use Rattle.names.specs.Words.{spelt};
-ghost use Rattle.tags.specs.Writers.{begin, wrong, written, ended, hasName, tagBytes, tagLength, Writable, openEvent, pointEvent, closeEvent, eventStep, spellStep, isFault, givesBy, lessBy, followIn, followOf, writeIn, wroteOf, writtenOut};
+ghost use Rattle.tags.specs.Writers.{begin, wrong, written, ended, hasName, tagBytes, tagLength, Writable, openEvent, pointEvent, closeEvent, closeOfEvent, eventStep, spellStep, isFault, givesBy, lessBy, followIn, followOf, writeIn, wroteOf, writtenOut};
 ghost use Rattle.meaning.specs.Lent.{putAt};
 use crate::levels::Levels;
 use answers::Event;
@@ -166,6 +166,18 @@ fn close_event(names: &[u8], scribe: Scribe) -> Spelled
     }
 }
 
+// A close that names a label: the newest's.
+fn close_of_event(names: &[u8], scribe: Scribe, label: u64) -> Spelled
+    ensures { λ r. ⌜ r ≡ closeOfEvent (now (names .entry)) scribe label ⌝ }
+{
+    let levels = scribe.levels;
+    if levels.newest() as u64 == label {
+        close_event(names, scribe)
+    } else {
+        scribe.wrong()
+    }
+}
+
 // An event, where byte 65 was not read yet.
 fn event_step(names: &[u8], scribe: Scribe, event: Event) -> Spelled
     ensures { λ r. ⌜ r ≡ eventStep (now (names .entry)) scribe event ⌝ }
@@ -174,6 +186,7 @@ fn event_step(names: &[u8], scribe: Scribe, event: Event) -> Spelled
         Event::Open(a) => open_event(names, scribe, a),
         Event::Point(a) => point_event(names, scribe, a),
         Event::Close => close_event(names, scribe),
+        Event::CloseOf(a) => close_of_event(names, scribe, a),
         Event::End => scribe.ends(),
         Event::Unknown => scribe.wrong(),
     }

@@ -81,6 +81,11 @@ fn try_reading(names: &[u8], text: &[u8], room: usize, desk: &mut [u64]) -> Told
     must
 }
 
+// A stream cannot go on at a labelled close.
+fn is_at_labelled(events: &[u8], must: Told) -> bool {
+    (must.kind == 2) & retell::is_labelled(slices::get(events, must.place))
+}
+
 // A stream, with room for so many bytes. Answers what must be said of it.
 fn try_writing(names: &[u8], events: &[u8], room: usize, desk: &mut [u64]) -> Told {
     let mut told = [170u8; 4096];
@@ -90,23 +95,45 @@ fn try_writing(names: &[u8], events: &[u8], room: usize, desk: &mut [u64]) -> To
     let alike = is_told(said, must) & slices::same_bytes(&told, &out);
     tally::note(desk, plus(tally::WRITTEN, must.kind), must.place, alike);
     tally::add(desk, tally::STREAMS, 1);
+    tally::add(
+        desk,
+        tally::AT_LABELLED,
+        is_at_labelled(events, must) as u64,
+    );
     must
 }
 
-// What is written of a stream is read back as its events.
+// A stream came back with each close labelled.
+fn is_back(events: &[u8], back: &[u8]) -> bool {
+    let mut must = [0u8; 512];
+    retell::label_closes(events, &mut must);
+    slices::same_bytes(part(&must, 0, events.len()), back)
+}
+
+// A stream that came back is written as the same text.
+fn try_same_text(names: &[u8], back: &[u8], text: &[u8], desk: &mut [u64]) {
+    let mut out = [0u8; 4096];
+    let written = is_written(names, back, &mut out, text.len());
+    let alike = slices::same_bytes(text, part(&out, 0, written.place));
+    tally::check(desk, (written.kind == 0) & alike);
+}
+
+// What is written of a stream is read back as its events with each close labelled.
 fn try_back(names: &[u8], events: &[u8], desk: &mut [u64]) {
-    let mut text = [0u8; 4096];
+    let mut out = [0u8; 4096];
     let mut again = [0u8; 512];
-    let written = is_written(names, events, &mut text, 4096);
-    let read = is_read(
-        names,
-        part(&text, 0, written.place),
-        &mut again,
-        events.len(),
-    );
-    let alike = slices::same_bytes(events, part(&again, 0, read.place));
-    tally::check(desk, (read.kind == 0) & alike);
+    let written = is_written(names, events, &mut out, 4096);
+    let text = part(&out, 0, written.place);
+    let read = is_read(names, text, &mut again, events.len());
+    let back = part(&again, 0, read.place);
+    tally::check(desk, (read.kind == 0) & is_back(events, back));
     tally::add(desk, tally::AGAIN, 1);
+    tally::add(
+        desk,
+        tally::BACK_LABELLED,
+        !slices::same_bytes(events, back) as u64,
+    );
+    try_same_text(names, back, text, desk);
 }
 
 // A stream in pieces, with room enough and with some. Where it is taken, what is written is read back.
@@ -162,11 +189,13 @@ fn draw_room(desk: &mut [u64], events: usize) -> usize {
     }
 }
 
-// The events of a text that is taken, written again.
+// The events of a text that is taken, written again. Their closes are labelled, so that they come back as they are.
 fn try_again(names: &[u8], text: &[u8], desk: &mut [u64]) {
-    let mut events = [0u8; 512];
-    let read = is_read(names, text, &mut events, 512);
-    try_stream(names, part(&events, 0, read.place), desk);
+    let mut out = [0u8; 512];
+    let read = is_read(names, text, &mut out, 512);
+    let events = part(&out, 0, read.place);
+    tally::check(desk, is_back(events, events));
+    try_stream(names, events, desk);
 }
 
 // A text with room enough and with less; where it is taken, its events are written again.

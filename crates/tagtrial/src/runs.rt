@@ -26,9 +26,10 @@ fn try_changed_text(desk: &mut [u64], at: usize, byte: usize) {
     compare::try_text(&names, &text, desk);
 }
 
+// The stream has both closes: a labelled one, and one without a label.
 fn try_changed_stream(desk: &mut [u64], at: usize, byte: usize) {
-    let mut events = [0u8; 4];
-    lists::put_bytes(&mut events, 0, b"\0!@A");
+    let mut events = [0u8; 6];
+    lists::put_bytes(&mut events, 0, b"\0\x01!C@A");
     put(&mut events, at, byte);
     compare::try_stream(b"ab\ncd\n", &events, desk);
 }
@@ -53,7 +54,7 @@ fn try_bytes_at(desk: &mut [u64], at: usize) {
 
 pub fn try_every_byte(desk: &mut [u64]) {
     let mut at = 0;
-    while at < 25 {
+    while at < 27 {
         try_bytes_at(desk, at);
         at += 1;
     }

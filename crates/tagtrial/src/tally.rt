@@ -1,6 +1,6 @@
 // What was compared, in words of the desk: at 0 to 7 the texts of each kind of answer, at 8 to 11 the streams of each kind; then
-// lists, texts, pieces, streams, events read back, streams in two pieces and what differed. From 22 on stands for each kind the
-// furthest place.
+// lists, texts, pieces, streams, streams read back, streams in two pieces, streams that came back with a close labelled that was
+// not, streams that cannot go on at a labelled close, and what differed. From 22 on stands for each kind the furthest place.
 use libc::STDOUT_FILENO;
 use slices::plus;
 use slices::put_word;
@@ -20,6 +20,10 @@ pub const STREAMS: usize = 15;
 pub const AGAIN: usize = 16;
 
 pub const PUT: usize = 17;
+
+pub const BACK_LABELLED: usize = 18;
+
+pub const AT_LABELLED: usize = 19;
 
 pub const DIFFERED: usize = 20;
 
@@ -78,6 +82,7 @@ fn say_writings(desk: &[u64]) {
     say(b"streams taken ", word(desk, WRITTEN));
     say(b"streams with bad names ", word(desk, 9));
     say_kind(desk, b"cannot go on ", 10);
+    say(b"of these at a labelled close ", word(desk, AT_LABELLED));
     say(b"text short ", word(desk, 11));
 }
 
@@ -88,6 +93,7 @@ fn say_counts(desk: &[u64]) {
     say(b"streams ", word(desk, STREAMS));
     say(b"in two pieces ", word(desk, PUT));
     say(b"read back ", word(desk, AGAIN));
+    say(b"of these with closes labelled ", word(desk, BACK_LABELLED));
     say(b"texts taken ", word(desk, 0));
 }
 

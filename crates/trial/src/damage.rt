@@ -1,8 +1,8 @@
 // The same call with a damage beside it: in the file, the record, the memory or a length.
 //
-// The second evaluator says by which of 1 to 14 the call has to be refused, and with which place. Where it says none, memory
-// that no run left may be stepped as it stands: then the watch takes the call, or refuses it by 15, and of a call that is
-// taken nothing else is compared.
+// The second evaluator says by which of 1 to 14 and 16 the call has to be refused, and with which place. Where it says none,
+// memory that no run left may be stepped as it stands: then the watch takes the call, or refuses it by 15, and of a call that
+// is taken the words of the levels are compared, and nothing else.
 use crate::memory;
 use crate::tally;
 use engine::Outcome;
@@ -11,6 +11,7 @@ use engine::Refusal;
 use making::between;
 use making::draw;
 use second::Claim;
+use second::Seen;
 
 // What is damaged: bits of a byte of the file, bits of a word of memory, how much is cut off the file, the memory and the
 // reports, and the record.
@@ -64,6 +65,15 @@ impl Harm {
         }
         self
     }
+
+    // The word of a level: one bit of it, so that often it is another label's.
+    fn of_level(mut self, desk: &mut [u64], work: usize) -> Harm {
+        let record = self.record;
+        let allowed = record.allowed as usize;
+        self.word_at = slices::plus(slices::minus(work, allowed), draw(desk, allowed));
+        self.word_bits = 1 << (draw(desk, 7) % 7);
+        self
+    }
 }
 
 // The record with a size or a count that is another, or finished where it was not.
@@ -83,13 +93,14 @@ fn harm_record(desk: &mut [u64], was: Record) -> Record {
 
 fn draw_harm(desk: &mut [u64], file: usize, work: usize, reports: usize, record: Record) -> Harm {
     let none = Harm::none(record);
-    match draw(desk, 8) {
+    match draw(desk, 10) {
         0 => none.of_file(desk, 0, 3),
         1 => none.of_file(desk, 4, 28),
         2 => none.of_file(desk, 29, file),
         3 => none.of_length(desk, file, reports),
         4 => Harm::none(harm_record(desk, record)),
         5 => none,
+        6..=7 => none.of_level(desk, work),
         _ => none.of_word(desk, work),
     }
 }
@@ -114,6 +125,14 @@ pub fn is_record(r: Record, claim: Claim) -> bool {
         & (r.finished == claim.finished)
 }
 
+// The words of the levels in memory are those that the second evaluator says.
+pub fn has_levels(work: &[u64], seen: Seen) -> bool {
+    let claim = seen.claim;
+    let must = seen.levels;
+    let levels = memory::levels_in(work, claim.allowed);
+    slices::same(&levels, &must)
+}
+
 // The place of a refusal 7, and 0 of every other outcome.
 fn place_of(outcome: Outcome) -> u64 {
     match outcome {
@@ -130,6 +149,13 @@ fn is_kept(record: Record, next: Record, reports: &[u32]) -> bool {
     is_record(next, claim_of(record)) & memory::reports_are(reports, &[], 0)
 }
 
+// The words of the levels that a taken event must leave, of memory as it stands.
+fn levels_after(record: Record, work: &[u64], byte: u8) -> [u64; 40] {
+    let mut levels = memory::levels_in(work, record.allowed);
+    second::step_levels(&mut levels, record.depth as usize, byte as usize);
+    levels
+}
+
 // The call itself. Answers whether it was taken.
 fn call(
     file: &[u8],
@@ -140,15 +166,23 @@ fn call(
     byte: u8,
 ) -> bool {
     let must = second::call_refusal(file, claim_of(record), work, reports.len(), byte as usize);
+    let next = levels_after(record, work, byte);
     memory::blank(reports);
     let answer = engine::event(file, record, work, reports, byte);
     let outcome = answer.outcome;
     let number = outcome.number();
     let taken = number == 0;
+    let levels = memory::levels_in(work, record.allowed);
+    let stepped = !taken | slices::same(&levels, &next);
     let named = (number == must.number) | (number == 15) & (must.number == 0);
     let placed = place_of(outcome) == must.place as u64;
     let kept = taken | is_kept(record, answer.next, reports);
-    tally::note(desk, tally::DAMAGED, number, named & placed & kept);
+    tally::note(
+        desk,
+        tally::DAMAGED,
+        number,
+        named & placed & kept & stepped,
+    );
     taken
 }
 
@@ -245,11 +279,12 @@ pub fn start(file: &[u8], rows: u64, depth: u64, work: &mut [u64], desk: &mut [u
         second::begin(0, 0, 0, 0, 0)
     };
     let is_first = is_record(answer.next, begun.claim);
+    let is_clear = has_levels(work, begun);
     tally::note(
         desk,
         tally::STARTS,
         number,
-        (number == must) & kept & is_first,
+        (number == must) & kept & is_first & is_clear,
     );
     answer.next
 }

@@ -28,47 +28,63 @@ fn draw_manner(desk: &mut [u64]) -> Manner {
     }
 }
 
+// A close: one that names no label, the newest level's, or any.
+fn draw_close(desk: &mut [u64], seen: Seen) -> usize {
+    match draw(desk, 4) {
+        0 => 64,
+        1 => slices::plus(66, draw(desk, seen.labels)),
+        _ => seen.closing(),
+    }
+}
+
 // An open, point or close, by how many of a hundred are opens and how many opens or points.
-fn draw_step(desk: &mut [u64], k: usize, opens: usize, positions: usize) -> usize {
+fn draw_step(desk: &mut [u64], seen: Seen, opens: usize, positions: usize) -> usize {
     let x = draw(desk, 100);
-    let a = draw(desk, k);
+    let a = draw(desk, seen.labels);
     if x < opens {
         a
     } else if x < positions {
         slices::plus(32, a)
     } else {
-        64
+        draw_close(desk, seen)
     }
 }
 
 // The next byte of a stream: now and then any byte or an end.
-fn draw_byte(desk: &mut [u64], manner: Manner, k: usize) -> usize {
+fn draw_byte(desk: &mut [u64], manner: Manner, seen: Seen) -> usize {
     if is_one_in(desk, 80) {
         return 65;
     }
     match manner {
-        Manner::Mixed => draw_step(desk, k, 30, 65),
-        Manner::Deep => draw_step(desk, k, 70, 85),
-        Manner::Crowded => draw_step(desk, k, 15, 90),
+        Manner::Mixed => draw_step(desk, seen, 30, 65),
+        Manner::Deep => draw_step(desk, seen, 70, 85),
+        Manner::Crowded => draw_step(desk, seen, 15, 90),
         Manner::Bad => if is_one_in(desk, 4) {
             draw(desk, 256)
         } else {
-            draw_step(desk, k, 35, 70)
+            draw_step(desk, seen, 35, 70)
         },
     }
 }
 
-// The byte that brings a stream to its end.
-fn last_byte(depth: u64) -> u8 {
-    if 0 < depth { 64 } else { 65 }
+// A byte that brings a stream to its end: a close of one kind or the other, or the end.
+fn last_byte(desk: &mut [u64], seen: Seen) -> usize {
+    let claim = seen.claim;
+    if claim.depth == 0 {
+        return 65;
+    }
+    if is_one_in(desk, 2) {
+        64
+    } else {
+        seen.closing()
+    }
 }
 
 fn next_byte(desk: &mut [u64], manner: Manner, seen: Seen, is_late: bool) -> u8 {
-    let claim = seen.claim;
     if is_late {
-        return last_byte(claim.depth);
+        return (last_byte(desk, seen) % 256) as u8;
     }
-    (draw_byte(desk, manner, seen.labels) % 256) as u8
+    (draw_byte(desk, manner, seen) % 256) as u8
 }
 
 // Some time after the end.
@@ -91,7 +107,7 @@ fn count_of(outcome: Outcome) -> u64 {
     }
 }
 
-// What the watch answered and wrote is what the second evaluator said.
+// What the watch answered and reported is what the second evaluator said.
 fn is_as_said(answer: Answer, reports: &[u32], must: &[u32], said: Said) -> bool {
     let outcome = answer.outcome;
     let seen = said.seen;
@@ -119,7 +135,8 @@ fn compare(
     let number = outcome.number();
     let kept = (number == 0) | slices::same(work, &copy);
     let alike = is_as_said(answer, reports, must, said);
-    tally::note(desk, tally::EVENTS, number, kept & alike);
+    let labelled = damage::has_levels(work, said.seen);
+    tally::note(desk, tally::EVENTS, number, kept & alike & labelled);
     tally::add(desk, tally::REPORTS, said.reports as u64);
     answer.next
 }
@@ -315,7 +332,7 @@ fn draw_sizes(desk: &mut [u64]) -> Sizes {
 // A stream, and then a damaged start over what it left. What memory holds at first does not matter.
 fn try_stream(file: &mut [u8], book: &mut [u8], reach: &[u64], desk: &mut [u64]) {
     let mut must = [0u32; 1024];
-    let mut work = [12297829382473034410u64; 8060];
+    let mut work = [12297829382473034410u64; 8100];
     let mut reports = [0u32; 72];
     let sizes = draw_sizes(desk);
     let front = slices::front_words(&mut work, memory::work_words(sizes.rows, sizes.depth));

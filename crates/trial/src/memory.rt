@@ -1,14 +1,26 @@
 // The memory that is lent to the watch: how much of it, copies of it, and the reports in it. Nothing is assumed.
 
-// A copy of work memory, which has at most 8,060 words.
-pub fn copy_of(work: &[u64]) -> [u64; 8060] {
-    let mut copy = [0u64; 8060];
+// A copy of work memory, which has at most 8,100 words.
+pub fn copy_of(work: &[u64]) -> [u64; 8100] {
+    let mut copy = [0u64; 8100];
     let mut i = 0;
-    while i < 8060 {
+    while i < 8100 {
         copy[i] = slices::word(work, i);
         i += 1;
     }
     copy
+}
+
+// The words of the levels, which stand at the end of work memory, level 1 first; 0 above the depth allowed.
+pub fn levels_in(work: &[u64], allowed: u64) -> [u64; 40] {
+    let from = slices::minus(work.len(), allowed as usize);
+    let mut levels = [0u64; 40];
+    let mut i = 0;
+    while i < 40 {
+        levels[i] = slices::word(work, slices::plus(from, i));
+        i += 1;
+    }
+    levels
 }
 
 fn put_report(s: &mut [u32], at: usize, x: u32) {
@@ -52,10 +64,10 @@ pub fn reports_are(reports: &[u32], must: &[u32], count: usize) -> bool {
     alike
 }
 
-// The words of work memory for so many rows and levels.
+// The words of work memory for so many rows and levels: each row's, and one for each level.
 pub fn work_words(rows: usize, depth: usize) -> usize {
     let row = slices::plus(slices::plus(depth, depth), slices::plus(depth, 4));
-    let mut words = row;
+    let mut words = slices::plus(row, depth);
     let mut i = 0;
     while i < rows {
         words = slices::plus(words, row);

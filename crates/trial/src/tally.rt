@@ -1,21 +1,21 @@
-// What was compared, in words of the desk: at 0 to 15 the refusals of each number (0: taken), of starts, events and damaged
+// What was compared, in words of the desk: at 0 to 16 the refusals of each number (0: taken), of starts, events and damaged
 // calls together; then tables, starts, events, reports, what differed, and damaged calls.
 use libc::STDOUT_FILENO;
 use slices::put_word;
 use slices::word;
 
-pub const TABLES: usize = 16;
+pub const TABLES: usize = 17;
 
-pub const STARTS: usize = 17;
+pub const STARTS: usize = 18;
 
-pub const EVENTS: usize = 18;
+pub const EVENTS: usize = 19;
 
-pub const REPORTS: usize = 19;
-
-pub const DIFFERED: usize = 20;
+pub const REPORTS: usize = 20;
 
 // The seed stands between.
-pub const DAMAGED: usize = 22;
+pub const DIFFERED: usize = 22;
+
+pub const DAMAGED: usize = 23;
 
 pub fn add(desk: &mut [u64], at: usize, more: u64) {
     let before = word(desk, at);
@@ -27,7 +27,7 @@ pub fn add(desk: &mut [u64], at: usize, more: u64) {
 // One comparison more of a kind, and how it went.
 pub fn note(desk: &mut [u64], kind: usize, number: u64, alike: bool) {
     add(desk, kind, 1);
-    add(desk, (number % 16) as usize, 1);
+    add(desk, (number % 17) as usize, 1);
     add(desk, DIFFERED, !alike as u64);
 }
 
@@ -45,7 +45,7 @@ fn say_refusal(number: usize, x: u64) {
 
 fn say_refusals(desk: &[u64]) {
     let mut i = 1;
-    while i < 16 {
+    while i < 17 {
         say_refusal(i, word(desk, i));
         i += 1;
     }

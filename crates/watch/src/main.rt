@@ -209,7 +209,7 @@ fn follow(table: &[u8], record: Record, work: &mut [u64], out: &mut [u8], waitin
 // The watch over a table.
 fn watch(table: &[u8]) {
     let mut out = io::large_buffer();
-    let mut work = [0u64; 8060];
+    let mut work = [0u64; 8100];
     let waiting = pipes::put(&mut out, 0, b"event verdict position\n");
     let answer = engine::start(table, 64, 40, &mut work);
     let outcome = answer.outcome;

@@ -29,8 +29,8 @@ add-used c =
     let g : r .rows ≤ 64 = d .before .before .before .pre .0 in
     omega (arith, h, g)
 
-add-t11 : tie.Need-add-t11
-add-t11 c = search needs
+add-t12 : tie.Need-add-t12
+add-t12 c = search needs
 
 first-fault-requires : tie.Need-first-fault-requires
 first-fault-requires c κs = search needs
@@ -40,7 +40,7 @@ returns-2 c =
     let d = c .before .before in
     let a = d .before .before .before .args in
     let used = c .before .if2 .used in
-    fault-words (a .r) (a .n) (a .work .now) used _ (right d)
+    fault-words (a .r) (a .n) (a .k) (a .work .now) used _ (right d)
     (⊎-elim (λ w. used-none (a .r .finished) used (a .r .alive) (w .0 .taken) (w .1))
     (λ w. used-some (a .r .finished) used (a .r .alive) (w .0 .left) (w .1))
     (c .before .if2 .came))
@@ -49,4 +49,4 @@ returns-2 c =
 pub fault-spec : {M : Type 1} → statement M
 fault-spec =
     tie.close
-    (tie.spec record-right-requires returns add-used add-t11 first-fault-requires returns-2)
+    (tie.spec record-right-requires returns add-used add-t12 first-fault-requires returns-2)

@@ -3,8 +3,9 @@ use mathlib.Core.List.{_++_}
 use mathlib.Core.Path.{sym, _∙_}
 use borrow.Author.Needs.{needs}
 use Rattle.bodies.specs.Sound.{statesIn, labelsIn}
-use Rattle.judge.specs.Judging.{callLines, eventLines}
+use Rattle.judge.specs.Judging.{callLines, eventLines, newestWord}
 use Rattle.judge.proofs.Following.{table-stands, call-stands, call-passes}
+use Rattle.judge.proofs.Passed.{call-passed}
 use Rattle.judge.proofs.judge.Statement.{statement}
 use Rattle.judge.proofs.judge.Tie as tie
 
@@ -27,14 +28,20 @@ enum-told-2 : tie.Need-enum-told-2
 enum-told-2 c = search needs
 
 judge-event-requires : tie.Need-judge-event-requires
-judge-event-requires c κs = search needs
+judge-event-requires c κs =
+    let j = c .before .before in
+    let t = j .before .before in
+    let g = t .reading2 .given in
+    let a = t .before .before .before .before .before .args in
+    let p = call-passed (g .0 .0) (g .0 .1 .0) (a .r) (a .work .now) (a .reports) (sym (j .judge-call .ensures) ∙ c .enum-told2 .given .1) in
+    (p .few-rows, p .few-levels, p .deep, p .size)
 
 returns : tie.Need-returns
 returns c =
     let d = c .before .before .before in
     let a = d .before .before .before .args in
     let f = a .table .now in
-    table-stands f (callLines (statesIn f) (a .r) (a .work .now) (a .reports) ++ eventLines (labelsIn f) (a .r) (a .event)) _
+    table-stands f (callLines (statesIn f) (labelsIn f) (a .r) (a .work .now) (a .reports) ++ eventLines (labelsIn f) (a .r) (newestWord (a .r) (a .work .now)) (a .event)) _
     (sym (d .read .ensures) ∙ c .before .reading .given .1)
 
 returns-2 : tie.Need-returns-2

@@ -24,7 +24,7 @@ sizes-right-requires c κs = search needs
 returns : tie.Need-returns
 returns c =
     let a = c .before .before .before .args in
-    sizes-stand (a .n) (a .r) (a .work .now) (a .reports) (sym (c .before .sizes-right .ensures) ∙ not-true _ (c .if1 .taken))
+    sizes-stand (a .n) (a .k) (a .r) (a .work .now) (a .reports) (sym (c .before .sizes-right .ensures) ∙ not-true _ (c .if1 .taken))
 
 add-if2 : tie.Need-add-if2
 add-if2 c =
@@ -36,7 +36,7 @@ returns-2 : tie.Need-returns-2
 returns-2 c =
     let d = c .before .before in
     let a = d .before .before .before .args in
-    reports-stand (a .n) (a .r) (a .work .now) (a .reports) (right d) (c .if2 .taken)
+    reports-stand (a .n) (a .k) (a .r) (a .work .now) (a .reports) (right d) (c .if2 .taken)
 
 fault-requires : tie.Need-fault-requires
 fault-requires c κs =
@@ -53,7 +53,7 @@ returns-3 c =
     let e = p .before in
     let d = e .before .before in
     let a = d .before .before .before .args in
-    order-stands (a .n) (a .r) (a .work .now) (a .reports) (right d) (e .if2 .left) _ (sym (p .fault .ensures) ∙ g .1)
+    order-stands (a .n) (a .k) (a .r) (a .work .now) (a .reports) (right d) (e .if2 .left) _ (sym (p .fault .ensures) ∙ g .1)
 
 enum-told : tie.Need-enum-told
 enum-told c = search needs
@@ -64,7 +64,7 @@ returns-4 c =
     let e = p .before in
     let d = e .before .before in
     let a = d .before .before .before .args in
-    finished-stands (a .n) (a .r) (a .work .now) (a .reports) (right d) (e .if2 .left)
+    finished-stands (a .n) (a .k) (a .r) (a .work .now) (a .reports) (right d) (e .if2 .left)
     (sym (p .fault .ensures) ∙ c .before .enum-told .given .1) (c .if3 .taken)
 
 returns-5 : tie.Need-returns-5
@@ -73,7 +73,7 @@ returns-5 c =
     let e = p .before in
     let d = e .before .before in
     let a = d .before .before .before .args in
-    none-stands (a .n) (a .r) (a .work .now) (a .reports) (right d) (e .if2 .left)
+    none-stands (a .n) (a .k) (a .r) (a .work .now) (a .reports) (right d) (e .if2 .left)
     (sym (p .fault .ensures) ∙ c .before .enum-told .given .1) (c .if3 .left)
 
 pub judge-call-spec : {M : Type 1} → statement M

@@ -4,13 +4,13 @@ use Rattle.judge.proofs.judge_point.Statement.{statement}
 use Rattle.judge.proofs.judge_point.Tie as tie
 
 returns : tie.Need-returns
-returns c = simp (le-leb _ _ (c .if1 .taken))
+returns c = λ x. simp (le-leb _ _ (c .if1 .taken))
 
 returns-2 : tie.Need-returns-2
-returns-2 c = simp (lt-leb _ _ (c .before .before .if1 .left), le-leb 2147483647 _ (c .if2 .taken))
+returns-2 c = λ x. simp (lt-leb _ _ (c .before .before .if1 .left), le-leb 2147483647 _ (c .if2 .taken))
 
 returns-3 : tie.Need-returns-3
-returns-3 c = simp (lt-leb _ _ (c .before .before .if1 .left), lt-leb 2147483647 _ (c .if2 .left))
+returns-3 c = λ x. simp (lt-leb _ _ (c .before .before .if1 .left), lt-leb 2147483647 _ (c .if2 .left))
 
 pub judge-point-spec : {M : Type 1} → statement M
 judge-point-spec = tie.close (tie.spec returns returns-2 returns-3)

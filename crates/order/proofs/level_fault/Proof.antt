@@ -31,7 +31,7 @@ returns : tie.Need-returns
 returns c =
     let l = c .before .before .before in
     let s = l .before .before in
-    state-wrong (s .args .s) (s .args .words .now) _ (s .args .r) (s .args .l) (l .row-length .ensures) (omega arith)
+    state-wrong (s .args .s) (s .args .words .now) _ (s .args .r) (s .args .l) (l .row-length .ensures) (s .pre .2) (omega arith)
     (c .before .before .state-at .ensures) (c .before .cell-right .ensures) (not-true _ (c .if1 .taken))
 
 selecting-at-requires : tie.Need-selecting-at-requires
@@ -48,7 +48,7 @@ returns-2 c =
     let t1 = c .before .before .before in
     let l = t1 .before .before .before in
     let s = l .before .before in
-    selecting-wrong (s .args .s) (s .args .words .now) _ (s .args .r) (s .args .l) (l .row-length .ensures) (omega arith)
+    selecting-wrong (s .args .s) (s .args .words .now) _ (s .args .r) (s .args .l) (l .row-length .ensures) (s .pre .2) (omega arith)
     (t1 .before .before .state-at .ensures) (t1 .before .cell-right .ensures) (not-false _ (t1 .if1 .left))
     (c .before .before .selecting-at .ensures) (c .before .cell-right2 .ensures) (not-true _ (c .if2 .taken))
 
@@ -67,7 +67,7 @@ returns-3 c =
     let t1 = t2 .before .before .before in
     let l = t1 .before .before .before in
     let s = l .before .before in
-    rejecting-wrong (s .args .s) (s .args .words .now) _ (s .args .r) (s .args .l) (l .row-length .ensures) (omega arith)
+    rejecting-wrong (s .args .s) (s .args .words .now) _ (s .args .r) (s .args .l) (l .row-length .ensures) (s .pre .2) (omega arith)
     (t1 .before .before .state-at .ensures) (t1 .before .cell-right .ensures) (not-false _ (t1 .if1 .left))
     (t2 .before .before .selecting-at .ensures) (t2 .before .cell-right2 .ensures) (not-false _ (t2 .if2 .left))
     (c .before .before .rejecting-at .ensures) (c .before .cell-right3 .ensures) (not-true _ (c .if3 .taken))
@@ -78,7 +78,7 @@ returns-4 c =
     let t1 = t2 .before .before .before in
     let l = t1 .before .before .before in
     let s = l .before .before in
-    level-right (s .args .s) (s .args .words .now) _ (s .args .r) (s .args .l) (l .row-length .ensures) (omega arith)
+    level-right (s .args .s) (s .args .words .now) _ (s .args .r) (s .args .l) (l .row-length .ensures) (s .pre .2) (omega arith)
     (t1 .before .before .state-at .ensures) (t1 .before .cell-right .ensures) (not-false _ (t1 .if1 .left))
     (t2 .before .before .selecting-at .ensures) (t2 .before .cell-right2 .ensures) (not-false _ (t2 .if2 .left))
     (c .before .before .rejecting-at .ensures) (c .before .cell-right3 .ensures) (not-false _ (c .if3 .left))

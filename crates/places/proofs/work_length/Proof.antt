@@ -1,27 +1,23 @@
--- `work_length` meets its contract.
+-- `work_length` meets its contract. Assumes nothing.
 use mathlib.Core.Path.{ap}
 use borrow.Author.Needs.{needs}
-use Prim.Native.Nat.{_+_, _*_}
+use Prim.Native.Nat.{_+_}
 use native.Mathlib.Omega.{arith}
 use native.Mathlib.Nat.{mul-le-mul-right}
+use Rattle.places.specs.Places.{rowLength}
 use Rattle.places.proofs.work_length.Statement.{statement}
 use Rattle.places.proofs.work_length.Tie as tie
 
--- src/lib.rt:45:6
+rows-length-requires : tie.Need-rows-length-requires
+rows-length-requires c κs = search needs
+
 add-result : tie.Need-add-result
-add-result c = search needs
+add-result c =
+    let a = c .before .args in
+    omega (arith, c .rows-length .ensures, mul-le-mul-right {m = a .rows + 1} {n = 65} (rowLength (a .depth)) (omega arith))
 
--- src/lib.rt:45:18
-row-length-requires : tie.Need-row-length-requires
-row-length-requires c κs = search needs
-
--- src/lib.rt:45:5
-mul-result : tie.Need-mul-result
-mul-result c = omega (arith, mul-le-mul-right {m = c .before .args .rows + 1} {n = 65} (c .row-length .result) (omega arith))
-
--- src/lib.rt:41:1
 returns : tie.Need-returns
-returns c = ap (λ x. (c .before .args .rows + 1) * x) (c .row-length .ensures)
+returns c = search needs
 
 pub work-length-spec : {M : Type 1} → statement M
-work-length-spec = tie.close (tie.spec add-result row-length-requires mul-result returns)
+work-length-spec = tie.close (tie.spec rows-length-requires add-result returns)

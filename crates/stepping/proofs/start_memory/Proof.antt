@@ -7,8 +7,8 @@ use lib.ListN.{set, length-set, replicate}
 use Rattle.meaning.specs.Table.{tableOf}
 use Rattle.meaning.specs.Masks.{accsOf}
 use Rattle.meaning.specs.Rows.{startRow}
-use Rattle.places.specs.Places.{stateAt, selectingAt, rejectingAt, workLength}
-use Rattle.places.specs.Memory.{workWords}
+use Rattle.places.specs.Places.{stateAt, selectingAt, rejectingAt, rowsLength}
+use Rattle.places.specs.Memory.{rowsWords}
 use Rattle.stepping.proofs.Whole.{start-words, start-room}
 use Rattle.stepping.proofs.start_memory.Statement.{statement}
 use Rattle.stepping.proofs.start_memory.Tie as tie
@@ -79,9 +79,9 @@ returns c =
     let selecting = rw (c .before .before .before .before .before .ends .ensures, c .before .before .before .before .before .before .before .before .before .before .before .before .states .ensures, s .pre .1 .1) at (c .before .before .before .before .safe .ensures) in
     let rejecting = rw (c .before .before .ends2 .ensures, c .before .before .before .before .before .before .before .before .before .before .before .before .states .ensures, s .pre .1 .1) at (c .before .safe2 .ensures) in
     rw (zeros, c .before .before .before .before .before .before .state-at .ensures, c .before .before .before .selecting-at .ensures, c .rejecting-at .ensures)
-    (ap₂ (λ x y. set (set (set (replicate (workLength rows depth) 0) (stateAt 0) q) (selectingAt 0) x) (rejectingAt 0) y) selecting rejecting
+    (ap₂ (λ x y. set (set (set (replicate (rowsLength rows depth) 0) (stateAt 0) q) (selectingAt 0) x) (rejectingAt 0) y) selecting rejecting
     ∙ start-words rows depth q _ _
-    ∙ ap (λ z. workWords rows depth (record { run = record { newest = record { state = z; selecting = startRow t (accsOf t) .newest .selecting; rejecting = startRow t (accsOf t) .newest .rejecting }; below = [] }; alive = [] })) (c .before .before .before .before .before .before .before .start .ensures))
+    ∙ ap (λ z. rowsWords rows depth (record { run = record { newest = record { state = z; selecting = startRow t (accsOf t) .newest .selecting; rejecting = startRow t (accsOf t) .newest .rejecting }; below = [] }; alive = [] })) (c .before .before .before .before .before .before .before .start .ensures))
 
 pub start-memory-spec : {M : Type 1} → statement M
 start-memory-spec =

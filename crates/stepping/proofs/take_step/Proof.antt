@@ -9,8 +9,8 @@ use borrow.Rule.Slice.PartMut.{same-len-mid}
 use lib.ListN.{length, take, drop, replicate, length-append}
 use Rattle.meaning.specs.Table.{tableOf}
 use Rattle.meaning.specs.Rows.{Row}
-use Rattle.places.specs.Places.{rowLength, workLength, padded}
-use Rattle.places.specs.Memory.{Held, heldsIn, allWords, workWords}
+use Rattle.places.specs.Places.{rowLength, rowsLength, padded}
+use Rattle.places.specs.Memory.{Held, heldsIn, allWords, rowsWords}
 use Rattle.rows.specs.Steps.{eventOf, stepRow, onRow, depthAfter}
 use Rattle.reports.specs.Reports.{reportOf, reportsOf, leftOver, leftOf}
 use Rattle.meaning.specs.Lent.{putAt, onFront}
@@ -61,7 +61,7 @@ module _ (c : tie.After-close-up) where
   now-at : now-of (c .before .before .before .before .before .before .before .before .before .before .before .before .before .row-length .result) ≡ now-c
   now-at = ap now-of (c .before .before .before .before .before .before .before .before .before .before .before .before .before .row-length .ensures)
 
-  now-length : length now-c ≡ workLength (c .before .before .before .before .before .before .before .before .before .before .before .before .before .before .before .before .before .args .rows) (c .before .before .before .before .before .before .before .before .before .before .before .before .before .before .before .before .before .args .depth)
+  now-length : length now-c ≡ rowsLength (c .before .before .before .before .before .before .before .before .before .before .before .before .before .before .before .before .before .args .rows) (c .before .before .before .before .before .before .before .before .before .before .before .before .before .before .before .before .before .args .depth)
   now-length =
       ap length (sym now-at)
       ∙ same-len-mid (c .before .before .before .before .before .before .before .before .before .before .before .before .before .row-length .result) (length (c .before .before .before .before .before .before .before .before .before .before .before .step-rows .last .0) - c .before .before .before .before .before .before .before .before .before .before .before .before .before .row-length .result) (c .before .before .before .before .before .before .before .before .before .before .before .step-rows .last .0) (c .close-up .last .0) (c .close-up .kept .0)
@@ -151,7 +151,7 @@ returns c =
       (
         now-at (c .before .before .before .before)
             ∙ none-added (tableOf (c .before .before .before .before .before .before .before .before .before .before .before .before .before .before .before .before .before .before .before .before .before .args .table .now)) (c .before .before .before .before .before .before .before .before .before .before .before .before .before .before .before .before .before .before .before .before .before .pre .0 .formed) (c .before .before .before .before .before .before .before .before .before .before .before .before .before .before .before .before .before .before .before .before .before .args .accs .now) (eventOf (c .before .before .before .before .before .before .before .before .before .before .before .before .before .before .before .before .before .before .before .before .before .args .step)) (c .before .before .before .before .before .before .before .before .before .before .before .before .before .before .before .before .before .before .before .before .before .args .rows) (c .before .before .before .before .before .before .before .before .before .before .before .before .before .before .before .before .before .before .before .before .before .args .depth) (c .before .before .before .before .before .before .before .before .before .before .before .before .before .before .before .before .before .before .before .before .before .args .d) (c .before .before .before .before .before .before .before .before .before .before .before .before .before .before .before .before .before .before .before .before .before .args .alive) (c .before .before .before .before .before .before .before .before .before .before .before .before .before .before .before .before .before .before .before .before .before .args .work .now) (c .before .before .before .before .before .before .before .before .before .before .before .before .before .before .before .before .before .before .before .before .before .pre .1 .0) (c .before .before .before .before .before .before .before .before .before .before .before .before .before .before .before .before .before .before .before .before .before .pre .1 .1 .0 .0) (c .before .before .before .before .before .before .before .before .before .before .before .before .before .before .before .step-rows .last .0) (stepped-is (c .before .before .before .before .before .before .before .before .before .before .before .before .before .before .before)) (c .before .before .before .before .close-up .last .0) (told (c .before .before .before .before) .1) (now-c (c .before .before .before .before)) (now-is (c .before .before .before .before)) (now-length (c .before .before .before .before))
-            ∙ ap (λ hs. workWords (s .args .rows) (s .args .depth) (record { run = run-c (c .before .before .before .before) .row; alive = leftOf hs })) e,
+            ∙ ap (λ hs. rowsWords (s .args .rows) (s .args .depth) (record { run = run-c (c .before .before .before .before) .row; alive = leftOf hs })) e,
         reported (c .before .before .before .before) .1 ∙ ap (λ hs. onFront (reportsOf hs) (s .args .reports .now)) e,
       ),
     )
@@ -222,7 +222,7 @@ returns-2 c =
     is-run
     ends
     in
-    let long : length (g .last .0) ≡ workLength (a .rows) (a .depth) = g .kept .0 ∙ ap length (now-at (c .before .before .before .before .before .before .before .before .before .before)) ∙ now-length (c .before .before .before .before .before .before .before .before .before .before) in
+    let long : length (g .last .0) ≡ rowsLength (a .rows) (a .depth) = g .kept .0 ∙ ap length (now-at (c .before .before .before .before .before .before .before .before .before .before)) ∙ now-length (c .before .before .before .before .before .before .before .before .before .before) in
     let added = some-added (tableOf (c .before .before .before .before .before .before .before .before .before .before .before .before .before .before .before .before .before .before .before .before .before .before .before .before .before .before .before .args .table .now)) (c .before .before .before .before .before .before .before .before .before .before .before .before .before .before .before .before .before .before .before .before .before .before .before .before .before .before .before .pre .0 .formed) (c .before .before .before .before .before .before .before .before .before .before .before .before .before .before .before .before .before .before .before .before .before .before .before .before .before .before .before .args .accs .now) (eventOf (c .before .before .before .before .before .before .before .before .before .before .before .before .before .before .before .before .before .before .before .before .before .before .before .before .before .before .before .args .step)) (c .before .before .before .before .before .before .before .before .before .before .before .before .before .before .before .before .before .before .before .before .before .before .before .before .before .before .before .args .rows) (c .before .before .before .before .before .before .before .before .before .before .before .before .before .before .before .before .before .before .before .before .before .before .before .before .before .before .before .args .depth) (c .before .before .before .before .before .before .before .before .before .before .before .before .before .before .before .before .before .before .before .before .before .before .before .before .before .before .before .args .d) (c .before .before .before .before .before .before .before .before .before .before .before .before .before .before .before .before .before .before .before .before .before .before .before .before .before .before .before .args .alive) (c .before .before .before .before .before .before .before .before .before .before .before .before .before .before .before .before .before .before .before .before .before .before .before .before .before .before .before .args .work .now) (c .before .before .before .before .before .before .before .before .before .before .before .before .before .before .before .before .before .before .before .before .before .before .before .before .before .before .before .pre .1 .0) (c .before .before .before .before .before .before .before .before .before .before .before .before .before .before .before .before .before .before .before .before .before .before .before .before .before .before .before .pre .1 .1 .0 .0) (c .before .before .before .before .before .before .before .before .before .before .before .before .before .before .before .before .before .before .before .before .before .step-rows .last .0) (stepped-is (c .before .before .before .before .before .before .before .before .before .before .before .before .before .before .before .before .before .before .before .before .before)) (c .before .before .before .before .before .before .before .before .before .before .close-up .last .0) (told (c .before .before .before .before .before .before .before .before .before .before) .1) now (now-is (c .before .before .before .before .before .before .before .before .before .before)) (leftOver new) (g .last .0) (known .1 .0 ∙ ap (λ k. putAt ((k + 1) * rowLength (a .depth)) (allWords (rowLength (a .depth)) (leftOver new)) now) (left-is (c .before .before .before .before .before .before .before .before .before .before))) long in (
       known .0
           ∙ ap₂ (λ x y. record { alive = x; reports = y })
@@ -230,7 +230,7 @@ returns-2 c =
           (ap (λ k. k + length (reportOf new)) (reported (c .before .before .before .before .before .before .before .before .before .before) .0) ∙ sym (ap length (one-more reportOf o new) ∙ length-append (reportsOf o) (reportOf new)) ∙ ap (λ hs. length (reportsOf hs)) e),
       (
         added
-            ∙ ap (λ hs. workWords (a .rows) (a .depth) (record { run = run-c (c .before .before .before .before .before .before .before .before .before .before) .row; alive = hs })) (sym (one-more leftOver o new) ∙ ap leftOf e),
+            ∙ ap (λ hs. rowsWords (a .rows) (a .depth) (record { run = run-c (c .before .before .before .before .before .before .before .before .before .before) .row; alive = hs })) (sym (one-more leftOver o new) ∙ ap leftOf e),
         known .1 .1
             ∙ ap (λ zs. putAt count (reportOf new) zs) (reported (c .before .before .before .before .before .before .before .before .before .before) .1)
             ∙ ap (λ k. putAt k (reportOf new) (onFront (reportsOf o) (a .reports .now))) (reported (c .before .before .before .before .before .before .before .before .before .before) .0)

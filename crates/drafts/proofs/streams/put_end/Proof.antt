@@ -1,4 +1,4 @@
--- `put_end` is safe and ends: the stream keeps its room, and each turn is one close fewer.
+-- `put_end` is safe and ends: the lent slices keep their lengths, and each turn is one close fewer.
 use mathlib.Core.Path.{_≡_}
 use Prim.Native.Nat.{_-_}
 use native.Mathlib.Omega.{arith}
@@ -8,10 +8,10 @@ use Rattle.drafts.proofs.streams.put_end.Statement.{statement}
 use Rattle.drafts.proofs.streams.put_end.Tie as tie
 
 abbrev Inv-loop : tie.InvT-loop
-Inv-loop events₀ from depth i₀ events i = length events ≡ length events₀
+Inv-loop events₀ from desk₀ labelled labels depth i₀ events desk i = (length events ≡ length events₀) × (length desk ≡ length desk₀)
 
 abbrev μ-loop : tie.MeasureT-loop
-μ-loop events₀ from depth i₀ events i = depth - i
+μ-loop events₀ from desk₀ labelled labels depth i₀ events desk i = depth - i
 
 loop-holds : tie.Need-loop-holds Inv-loop μ-loop
 loop-holds c = omega arith
@@ -19,8 +19,8 @@ loop-holds c = omega arith
 plus-requires : tie.Need-plus-requires Inv-loop μ-loop
 plus-requires c κs = search needs
 
-put-requires : tie.Need-put-requires Inv-loop μ-loop
-put-requires c κs = search needs
+put-event-requires : tie.Need-put-event-requires Inv-loop μ-loop
+put-event-requires c κs = search needs
 
 add-i : tie.Need-add-i Inv-loop μ-loop
 add-i c = omega arith
@@ -34,8 +34,8 @@ loop-again c = omega arith
 plus-requires-2 : tie.Need-plus-requires-2 Inv-loop μ-loop
 plus-requires-2 c κs = search needs
 
-put-requires-2 : tie.Need-put-requires-2 Inv-loop μ-loop
-put-requires-2 c κs = search needs
+put-requires : tie.Need-put-requires Inv-loop μ-loop
+put-requires c κs = search needs
 
 plus-requires-3 : tie.Need-plus-requires-3 Inv-loop μ-loop
 plus-requires-3 c κs = search needs
@@ -45,6 +45,9 @@ plus-requires-4 c κs = search needs
 
 same-length : tie.Need-same-length Inv-loop μ-loop
 same-length c = omega arith
+
+same-length-2 : tie.Need-same-length-2 Inv-loop μ-loop
+same-length-2 c = omega arith
 
 returns : tie.Need-returns Inv-loop μ-loop
 returns c = search needs
@@ -57,13 +60,14 @@ put-end-spec =
     μ-loop
     loop-holds
     plus-requires
-    put-requires
+    put-event-requires
     add-i
     loop-less
     loop-again
     plus-requires-2
-    put-requires-2
+    put-requires
     plus-requires-3
     plus-requires-4
     same-length
+    same-length-2
     returns)

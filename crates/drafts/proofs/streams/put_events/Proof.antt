@@ -19,8 +19,8 @@ loop-holds c = omega arith
 draw-event-requires : tie.Need-draw-event-requires Inv-loop μ-loop
 draw-event-requires c κs = search needs
 
-put-requires : tie.Need-put-requires Inv-loop μ-loop
-put-requires c κs = search needs
+put-event-requires : tie.Need-put-event-requires Inv-loop μ-loop
+put-event-requires c κs = search needs
 
 depth-after-requires : tie.Need-depth-after-requires Inv-loop μ-loop
 depth-after-requires c κs = search needs
@@ -51,7 +51,7 @@ put-events-spec =
     μ-loop
     loop-holds
     draw-event-requires
-    put-requires
+    put-event-requires
     depth-after-requires
     add-at
     loop-less

@@ -11,6 +11,9 @@ newest-requires c κs = search needs
 shallower-requires : tie.Need-shallower-requires
 shallower-requires c κs = search needs
 
+add-tag-at : tie.Need-add-tag-at
+add-tag-at c = search needs
+
 tag-at-requires : tie.Need-tag-at-requires
 tag-at-requires c κs = search needs
 
@@ -26,4 +29,4 @@ returns-2 c = simp (c .fault .ensures, ne-eqb _ _ (λ e. c .before .if1 .left (c
 pub close-step-spec : {M : Type 1} → statement M
 close-step-spec =
     tie.close
-    (tie.spec newest-requires shallower-requires tag-at-requires fault-requires returns returns-2)
+    (tie.spec newest-requires shallower-requires add-tag-at tag-at-requires fault-requires returns returns-2)

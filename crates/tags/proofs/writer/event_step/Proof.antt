@@ -22,6 +22,12 @@ enum-told c = search needs
 close-event-requires : tie.Need-close-event-requires
 close-event-requires c κs = search needs
 
+enum-known-event-3 : tie.Need-enum-known-event-3
+enum-known-event-3 c = search needs
+
+close-of-event-requires : tie.Need-close-of-event-requires
+close-of-event-requires c κs = search needs
+
 enum-told-2 : tie.Need-enum-told-2
 enum-told-2 c = search needs
 
@@ -44,10 +50,13 @@ returns-3 : tie.Need-returns-3
 returns-3 c = c .close-event .ensures ∙ rw (c .before .enum-told .given .1)
 
 returns-4 : tie.Need-returns-4
-returns-4 c = c .ends .ensures ∙ rw (c .before .enum-told2 .given .1)
+returns-4 c = c .close-of-event .ensures ∙ rw (c .before .before .event3 .given .1)
 
 returns-5 : tie.Need-returns-5
-returns-5 c = c .wrong .ensures ∙ rw (c .before .enum-told3 .given .1)
+returns-5 c = c .ends .ensures ∙ rw (c .before .enum-told2 .given .1)
+
+returns-6 : tie.Need-returns-6
+returns-6 c = c .wrong .ensures ∙ rw (c .before .enum-told3 .given .1)
 
 pub event-step-spec : {M : Type 1} → statement M
 event-step-spec =
@@ -59,6 +68,8 @@ event-step-spec =
     point-event-requires
     enum-told
     close-event-requires
+    enum-known-event-3
+    close-of-event-requires
     enum-told-2
     ends-requires
     enum-told-3
@@ -67,4 +78,5 @@ event-step-spec =
     returns-2
     returns-3
     returns-4
-    returns-5)
+    returns-5
+    returns-6)

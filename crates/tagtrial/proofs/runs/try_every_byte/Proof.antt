@@ -11,7 +11,7 @@ abbrev Inv-loop : tie.InvT-loop
 Inv-loop desk₀ at₀ desk at = length desk ≡ length desk₀
 
 abbrev μ-loop : tie.MeasureT-loop
-μ-loop desk₀ at₀ desk at = 25 - at
+μ-loop desk₀ at₀ desk at = 27 - at
 
 loop-holds : tie.Need-loop-holds Inv-loop μ-loop
 loop-holds c = omega arith

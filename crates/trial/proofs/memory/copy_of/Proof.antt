@@ -9,7 +9,7 @@ abbrev Inv-loop : tie.InvT-loop
 Inv-loop work copy₀ i₀ copy i = 0 ≤ i
 
 abbrev μ-loop : tie.MeasureT-loop
-μ-loop work copy₀ i₀ copy i = 8060 - i
+μ-loop work copy₀ i₀ copy i = 8100 - i
 
 loop-holds : tie.Need-loop-holds Inv-loop μ-loop
 loop-holds c = omega arith

@@ -20,11 +20,14 @@ plus-requires-2 c κs = search needs
 plus-requires-3 : tie.Need-plus-requires-3 Inv-loop μ-loop
 plus-requires-3 c κs = search needs
 
+plus-requires-4 : tie.Need-plus-requires-4 Inv-loop μ-loop
+plus-requires-4 c κs = search needs
+
 loop-holds : tie.Need-loop-holds Inv-loop μ-loop
 loop-holds c = omega arith
 
-plus-requires-4 : tie.Need-plus-requires-4 Inv-loop μ-loop
-plus-requires-4 c κs = search needs
+plus-requires-5 : tie.Need-plus-requires-5 Inv-loop μ-loop
+plus-requires-5 c κs = search needs
 
 add-i : tie.Need-add-i Inv-loop μ-loop
 add-i c = omega arith
@@ -47,8 +50,9 @@ work-words-spec =
     plus-requires
     plus-requires-2
     plus-requires-3
-    loop-holds
     plus-requires-4
+    loop-holds
+    plus-requires-5
     add-i
     loop-less
     loop-again

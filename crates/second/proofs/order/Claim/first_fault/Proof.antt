@@ -6,10 +6,10 @@ use Rattle.second.proofs.order.Claim.first_fault.Statement.{statement}
 use Rattle.second.proofs.order.Claim.first_fault.Tie as tie
 
 abbrev Inv-loop : tie.InvT-loop
-Inv-loop self n work fault₀ at₀ fault at = 0 ≤ at
+Inv-loop self n k work fault₀ at₀ fault at = 0 ≤ at
 
 abbrev μ-loop : tie.MeasureT-loop
-μ-loop self n work fault₀ at₀ fault at = at
+μ-loop self n k work fault₀ at₀ fault at = at
 
 loop-holds : tie.Need-loop-holds Inv-loop μ-loop
 loop-holds c = omega arith
