@@ -1,7 +1,7 @@
 -- A byte that was judged, as an event of the stream: what it means, and that the stream goes on with it. Assumes nothing.
 use mathlib.Core.Bool.{false}
-use mathlib.Core.List.{List, [], _∷_, _++_, append-nil}
-use mathlib.Core.Path.{_≡_, refl, sym, ap, subst}
+use mathlib.Core.List.{List, [], _∷_, _++_, append-nil, append-assoc}
+use mathlib.Core.Path.{_≡_, refl, sym, ap, subst, _∙_}
 use Prim.Native.Nat.{ℕ, suc, _+_, _-_, _<_, _≤_}
 use native.Mathlib.Numerals.{add-one}
 use native.Mathlib.Omega.{arith}
@@ -12,10 +12,12 @@ use Rattle.rows.specs.Steps.{depthAfter}
 use Rattle.answers.specs.declared.Record.{Record}
 use Rattle.answers.specs.declared.Event.{Event}
 use Rattle.answers.specs.declared.Event.the-variants.{Open, Point, Close, CloseOf, End, Unknown}
-use Rattle.answers.specs.Bytes.{eventOf}
+use Rattle.answers.specs.declared.Outcome.{Outcome}
+use Rattle.answers.specs.declared.Outcome.the-variants.{Taken, Refused}
+use Rattle.answers.specs.Bytes.{meaningOf, eventOf, eventsOf}
 use Rattle.judge.proofs.Passed.{EventPassed}
 use Rattle.engine.specs.Calls.{stepRecord, stepped, taking}
-use Rattle.demands.specs.Watching.{Stream, longer}
+use Rattle.demands.specs.Watching.{Call, Stream, Watching, longer, onTaken, outcomeOf, called, calledAll, takenBytes}
 
 -- The events taken are those that the bytes are.
 pub longer-events : (s : Stream) (x : Event) → longer s x .events ≡ s .events ++ eventOf x
@@ -25,6 +27,22 @@ longer-events s Close = refl
 longer-events s (CloseOf a) = refl
 longer-events s End = sym (append-nil (s .events))
 longer-events s Unknown = sym (append-nil (s .events))
+
+-- After any calls the stream has the events that the taken bytes are, and no other.
+pub stream-is : (f : List ℕ) (s : Watching) (cs : List Call) → calledAll f s cs .stream .events ≡ s .stream .events ++ eventsOf (takenBytes f s cs)
+stream-is f s [] = sym (append-nil (s .stream .events))
+stream-is f s (c ∷ cs) = stream-is f (called f s c) cs ∙ go (outcomeOf f s c)
+  where
+    rest : List ℕ
+    rest = takenBytes f (called f s c) cs
+
+    go : (x : Outcome) →
+        onTaken x (s .stream) (longer (s .stream) (meaningOf (c .byte))) .events ++ eventsOf rest
+        ≡ s .stream .events ++ eventsOf (onTaken x [] (c .byte ∷ []) ++ rest)
+    go (Taken reports) =
+        ap (λ (es : List stream.Event). es ++ eventsOf rest) (longer-events (s .stream) (meaningOf (c .byte)))
+        ∙ append-assoc (s .stream .events) (eventOf (meaningOf (c .byte))) (eventsOf rest)
+    go (Refused why) = refl
 
 -- What a byte means is this event of the stream. Both closes are one.
 pub data Means : Event → stream.Event → Type 0 where

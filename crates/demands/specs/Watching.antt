@@ -100,6 +100,11 @@ abbrev pub calledAll : List ℕ → Watching → List Call → Watching
 calledAll f s [] = s
 calledAll f s (c ∷ cs) = calledAll f (called f s c) cs
 
+-- The bytes of the calls that were taken.
+abbrev pub takenBytes : List ℕ → Watching → List Call → List ℕ
+takenBytes f s [] = []
+takenBytes f s (c ∷ cs) = onTaken (outcomeOf f s c) [] (c .byte ∷ []) ++ takenBytes f (called f s c) cs
+
 -- What a caller learns from a call: the outcome, and the reports that it reads.
 pub record Told : Type 0 where
   pub outcome : Outcome

@@ -3,8 +3,8 @@
 // The book has the table laid out, then the stream that was taken, then a verdict for each position. The verdicts of the next
 // event are worked out behind those that stand, and take their place where the event is taken. There is room for 1,023
 // positions.
+use crate::levels::find_levels;
 use crate::levels::is_close;
-use crate::levels::levels_of;
 use crate::order::Claim;
 use crate::run::ALIVE;
 use crate::run::CERTAIN;
@@ -23,7 +23,7 @@ const VERDICTS: usize = 9216;
 const NEXT: usize = 10240;
 
 // The record that the watch must have, what was taken, and where the stream began: the table's labels, its start state, and
-// the positions that were read before. Last, the words of the levels that the watch must have.
+// the positions that were read before.
 pub struct Seen {
     pub claim: Claim,
     pub labels: usize,
@@ -31,7 +31,6 @@ pub struct Seen {
     pub before: u64,
     pub events: usize,
     pub positions: usize,
-    pub levels: [u64; 40],
 }
 
 // What must come of an event: 0 or the refusal's number, the number of reports, and what is seen then.
@@ -67,7 +66,6 @@ pub fn begin(rows: u64, allowed: u64, before: u64, labels: usize, start: usize) 
         before: before,
         events: 0,
         positions: 0,
-        levels: [0; 40],
     }
 }
 
@@ -102,36 +100,38 @@ impl Claim {
 }
 
 impl Seen {
-    // The word of the newest level, 0 where nothing is open.
-    fn newest_level(self) -> u64 {
+    // Writes the words of the levels that the watch must have, over words that are 0.
+    pub fn put_levels(self, book: &[u8], words: &mut [u64]) {
         let claim = self.claim;
-        let levels = self.levels;
-        word(&levels, minus(claim.depth as usize, 1))
+        find_levels(book, self.events, claim.depth as usize, words);
+    }
+
+    // The word of the newest level, 0 where nothing is open.
+    fn newest_level(self, book: &[u8]) -> u64 {
+        let claim = self.claim;
+        let mut words = [0u64; 40];
+        self.put_levels(book, &mut words);
+        word(&words, minus(claim.depth as usize, 1))
     }
 
     // The byte that closes the newest level and names its label; where nothing is open, one that names label 0.
-    pub fn closing(self) -> usize {
-        let newest = self.newest_level();
+    pub fn closing(self, book: &[u8]) -> usize {
+        let newest = self.newest_level(book);
         plus(66, minus(newest as usize, 1))
     }
 
-    // What is seen with an event more, which goes into the book; its alive count apart.
-    fn after(self, book: &mut [u8], byte: usize) -> Seen {
-        put(book, plus(STREAM, self.events), byte);
+    fn after(self, byte: usize) -> Seen {
         let mut positions = self.positions;
         if byte < 64 {
             positions = plus(positions, 1);
         }
-        let claim = self.claim.after(byte);
-        let events = plus(self.events, 1);
         Seen {
-            claim: claim,
+            claim: self.claim.after(byte),
             labels: self.labels,
             start: self.start,
             before: self.before,
-            events: events,
+            events: plus(self.events, 1),
             positions: positions,
-            levels: levels_of(book, events, claim.depth as usize),
         }
     }
 
@@ -220,14 +220,15 @@ fn refuses(seen: Seen, number: u64) -> Said {
 
 // One event byte: the refusal that falls, 8 to 16, or the reports that must come, in `must`.
 pub fn follow(book: &mut [u8], reach: &[u64], must: &mut [u32], seen: Seen, byte: usize) -> Said {
-    let claim = seen.claim;
-    let number = claim.byte_refusal(seen.labels, seen.newest_level(), byte);
+    let newest = seen.newest_level(book);
+    let number = seen.claim.byte_refusal(seen.labels, newest, byte);
     if number != 0 {
         return refuses(seen, number);
     }
-    let read = seen.after(book, byte);
+    put(book, plus(STREAM, seen.events), byte);
+    let read = seen.after(byte);
     let alive = judge_all(read, book, reach);
-    if claim.rows < alive {
+    if seen.claim.rows < alive {
         return refuses(seen, 15);
     }
     Said {

@@ -30,10 +30,9 @@ pub fn step_levels(words: &mut [u64], depth: usize, byte: usize) {
     }
 }
 
-// The words after the first events of the stream, which leave so many levels open. The search goes back from the last event:
-// an open that no close behind it closed has opened the deepest level that is not found yet.
-pub fn levels_of(book: &[u8], events: usize, depth: usize) -> [u64; 40] {
-    let mut words = [0u64; 40];
+// Writes the words after the first events of the stream, which leave so many levels open, over words that are 0. The search
+// goes back from the last event: an open that no close behind it closed has opened the deepest level that is not found yet.
+pub fn find_levels(book: &[u8], events: usize, depth: usize, words: &mut [u64]) {
     let mut level = depth;
     let mut closed = 0;
     let mut i = events;
@@ -42,15 +41,11 @@ pub fn levels_of(book: &[u8], events: usize, depth: usize) -> [u64; 40] {
         let byte = get(book, plus(STREAM, i));
         if is_close(byte) {
             closed = plus(closed, 1);
+        } else if (byte < 32) & (closed == 0) {
+            level = minus(level, 1);
+            put_word(words, level, byte as u64 + 1);
         } else if byte < 32 {
-            if closed == 0 {
-                level = minus(level, 1);
-                if level < 40 {
-                    words[level] = byte as u64 + 1;
-                }
-            }
             closed = minus(closed, 1);
         }
     }
-    words
 }

@@ -11,7 +11,6 @@ use engine::Refusal;
 use making::between;
 use making::draw;
 use second::Claim;
-use second::Seen;
 
 // What is damaged: bits of a byte of the file, bits of a word of memory, how much is cut off the file, the memory and the
 // reports, and the record.
@@ -125,14 +124,6 @@ pub fn is_record(r: Record, claim: Claim) -> bool {
         & (r.finished == claim.finished)
 }
 
-// The words of the levels in memory are those that the second evaluator says.
-pub fn has_levels(work: &[u64], seen: Seen) -> bool {
-    let claim = seen.claim;
-    let must = seen.levels;
-    let levels = memory::levels_in(work, claim.allowed);
-    slices::same(&levels, &must)
-}
-
 // The place of a refusal 7, and 0 of every other outcome.
 fn place_of(outcome: Outcome) -> u64 {
     match outcome {
@@ -172,8 +163,7 @@ fn call(
     let outcome = answer.outcome;
     let number = outcome.number();
     let taken = number == 0;
-    let levels = memory::levels_in(work, record.allowed);
-    let stepped = !taken | slices::same(&levels, &next);
+    let stepped = !taken | memory::has_levels(work, record.allowed, &next);
     let named = (number == must.number) | (number == 15) & (must.number == 0);
     let placed = place_of(outcome) == must.place as u64;
     let kept = taken | is_kept(record, answer.next, reports);
@@ -279,7 +269,7 @@ pub fn start(file: &[u8], rows: u64, depth: u64, work: &mut [u64], desk: &mut [u
         second::begin(0, 0, 0, 0, 0)
     };
     let is_first = is_record(answer.next, begun.claim);
-    let is_clear = has_levels(work, begun);
+    let is_clear = (number != 0) | memory::has_levels(work, depth, &[0; 40]);
     tally::note(
         desk,
         tally::STARTS,

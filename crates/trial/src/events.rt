@@ -29,16 +29,16 @@ fn draw_manner(desk: &mut [u64]) -> Manner {
 }
 
 // A close: one that names no label, the newest level's, or any.
-fn draw_close(desk: &mut [u64], seen: Seen) -> usize {
+fn draw_close(desk: &mut [u64], book: &[u8], seen: Seen) -> usize {
     match draw(desk, 4) {
         0 => 64,
         1 => slices::plus(66, draw(desk, seen.labels)),
-        _ => seen.closing(),
+        _ => seen.closing(book),
     }
 }
 
 // An open, point or close, by how many of a hundred are opens and how many opens or points.
-fn draw_step(desk: &mut [u64], seen: Seen, opens: usize, positions: usize) -> usize {
+fn draw_step(desk: &mut [u64], book: &[u8], seen: Seen, opens: usize, positions: usize) -> usize {
     let x = draw(desk, 100);
     let a = draw(desk, seen.labels);
     if x < opens {
@@ -46,29 +46,29 @@ fn draw_step(desk: &mut [u64], seen: Seen, opens: usize, positions: usize) -> us
     } else if x < positions {
         slices::plus(32, a)
     } else {
-        draw_close(desk, seen)
+        draw_close(desk, book, seen)
     }
 }
 
 // The next byte of a stream: now and then any byte or an end.
-fn draw_byte(desk: &mut [u64], manner: Manner, seen: Seen) -> usize {
+fn draw_byte(desk: &mut [u64], book: &[u8], manner: Manner, seen: Seen) -> usize {
     if is_one_in(desk, 80) {
         return 65;
     }
     match manner {
-        Manner::Mixed => draw_step(desk, seen, 30, 65),
-        Manner::Deep => draw_step(desk, seen, 70, 85),
-        Manner::Crowded => draw_step(desk, seen, 15, 90),
+        Manner::Mixed => draw_step(desk, book, seen, 30, 65),
+        Manner::Deep => draw_step(desk, book, seen, 70, 85),
+        Manner::Crowded => draw_step(desk, book, seen, 15, 90),
         Manner::Bad => if is_one_in(desk, 4) {
             draw(desk, 256)
         } else {
-            draw_step(desk, seen, 35, 70)
+            draw_step(desk, book, seen, 35, 70)
         },
     }
 }
 
 // A byte that brings a stream to its end: a close of one kind or the other, or the end.
-fn last_byte(desk: &mut [u64], seen: Seen) -> usize {
+fn last_byte(desk: &mut [u64], book: &[u8], seen: Seen) -> usize {
     let claim = seen.claim;
     if claim.depth == 0 {
         return 65;
@@ -76,15 +76,15 @@ fn last_byte(desk: &mut [u64], seen: Seen) -> usize {
     if is_one_in(desk, 2) {
         64
     } else {
-        seen.closing()
+        seen.closing(book)
     }
 }
 
-fn next_byte(desk: &mut [u64], manner: Manner, seen: Seen, is_late: bool) -> u8 {
+fn next_byte(desk: &mut [u64], book: &[u8], manner: Manner, seen: Seen, is_late: bool) -> u8 {
     if is_late {
-        return (last_byte(desk, seen) % 256) as u8;
+        return (last_byte(desk, book, seen) % 256) as u8;
     }
-    (draw_byte(desk, manner, seen) % 256) as u8
+    (draw_byte(desk, book, manner, seen) % 256) as u8
 }
 
 // Some time after the end.
@@ -117,9 +117,18 @@ fn is_as_said(answer: Answer, reports: &[u32], must: &[u32], said: Said) -> bool
     (outcome.number() == said.number) & counted & told & next
 }
 
+// So are the words of the levels in memory.
+fn has_levels(book: &[u8], work: &[u64], seen: Seen) -> bool {
+    let claim = seen.claim;
+    let mut must = [0u64; 40];
+    seen.put_levels(book, &mut must);
+    memory::has_levels(work, claim.allowed, &must)
+}
+
 // The event call, against what the second evaluator said of it. Answers the next record.
 fn compare(
     file: &[u8],
+    book: &[u8],
     work: &mut [u64],
     reports: &mut [u32],
     must: &[u32],
@@ -135,7 +144,7 @@ fn compare(
     let number = outcome.number();
     let kept = (number == 0) | slices::same(work, &copy);
     let alike = is_as_said(answer, reports, must, said);
-    let labelled = damage::has_levels(work, said.seen);
+    let labelled = has_levels(book, work, said.seen);
     tally::note(desk, tally::EVENTS, number, kept & alike & labelled);
     tally::add(desk, tally::REPORTS, said.reports as u64);
     answer.next
@@ -156,7 +165,7 @@ fn follow_byte(
     let was = now.record;
     let seen = now.seen;
     let said = second::follow(book, reach, must, seen, byte as usize);
-    let record = compare(file, work, reports, must, desk, was, said, byte);
+    let record = compare(file, book, work, reports, must, desk, was, said, byte);
     let next = said.seen;
     Both {
         record: record,
@@ -168,6 +177,7 @@ fn follow_byte(
 // Draws a byte and makes its call with a damage. Answers the byte.
 fn damage_one(
     file: &mut [u8],
+    book: &[u8],
     work: &[u64],
     reports: &mut [u32],
     desk: &mut [u64],
@@ -177,7 +187,7 @@ fn damage_one(
 ) -> u8 {
     let seen = now.seen;
     let record = now.record;
-    let byte = next_byte(desk, manner, seen, is_late);
+    let byte = next_byte(desk, book, manner, seen, is_late);
     damage::try_damaged(file, work, reports, desk, record, byte);
     byte
 }
@@ -195,7 +205,7 @@ fn follow_one(
     manner: Manner,
     is_late: bool,
 ) -> Both {
-    let byte = damage_one(file, work, reports, desk, now, manner, is_late);
+    let byte = damage_one(file, book, work, reports, desk, now, manner, is_late);
     follow_byte(file, book, reach, must, work, reports, desk, now, byte)
 }
 

@@ -23,6 +23,12 @@ pub fn levels_in(work: &[u64], allowed: u64) -> [u64; 40] {
     levels
 }
 
+// The words of the levels are these.
+pub fn has_levels(work: &[u64], allowed: u64, must: &[u64]) -> bool {
+    let levels = levels_in(work, allowed);
+    slices::same(&levels, must)
+}
+
 fn put_report(s: &mut [u32], at: usize, x: u32) {
     if at < s.len() {
         s[at] = x;

@@ -1,12 +1,13 @@
--- `levels_of` is safe and ends: each turn is one event fewer.
-use Prim.Native.Nat.{_≤_}
+-- `find_levels` is safe and ends: the words keep their number, and each turn is one event fewer.
+use mathlib.Core.Path.{_≡_}
 use native.Mathlib.Omega.{arith}
 use borrow.Author.Needs.{needs}
-use Rattle.second.proofs.levels.levels_of.Statement.{statement}
-use Rattle.second.proofs.levels.levels_of.Tie as tie
+use lib.ListN.{length}
+use Rattle.second.proofs.levels.find_levels.Statement.{statement}
+use Rattle.second.proofs.levels.find_levels.Tie as tie
 
 abbrev Inv-loop : tie.InvT-loop
-Inv-loop book events depth words₀ level₀ closed₀ i₀ words level closed i = 0 ≤ i
+Inv-loop book events depth words₀ level₀ closed₀ i₀ words level closed i = length words ≡ length words₀
 
 abbrev μ-loop : tie.MeasureT-loop
 μ-loop book events depth words₀ level₀ closed₀ i₀ words level closed i = i
@@ -38,17 +39,11 @@ loop-again c = omega arith
 minus-requires : tie.Need-minus-requires Inv-loop μ-loop
 minus-requires c κs = search needs
 
-add-words : tie.Need-add-words Inv-loop μ-loop
-add-words c = omega arith
+add-put-word : tie.Need-add-put-word Inv-loop μ-loop
+add-put-word c = omega arith
 
-mul-words : tie.Need-mul-words Inv-loop μ-loop
-mul-words c = omega arith
-
-array-write-words : tie.Need-array-write-words Inv-loop μ-loop
-array-write-words c = omega arith
-
-minus-requires-2 : tie.Need-minus-requires-2 Inv-loop μ-loop
-minus-requires-2 c κs = search needs
+put-word-requires : tie.Need-put-word-requires Inv-loop μ-loop
+put-word-requires c κs = search needs
 
 loop-less-2 : tie.Need-loop-less-2 Inv-loop μ-loop
 loop-less-2 c = omega arith
@@ -56,17 +51,29 @@ loop-less-2 c = omega arith
 loop-again-2 : tie.Need-loop-again-2 Inv-loop μ-loop
 loop-again-2 c = omega arith
 
+minus-requires-2 : tie.Need-minus-requires-2 Inv-loop μ-loop
+minus-requires-2 c κs = search needs
+
 loop-less-3 : tie.Need-loop-less-3 Inv-loop μ-loop
 loop-less-3 c = omega arith
 
 loop-again-3 : tie.Need-loop-again-3 Inv-loop μ-loop
 loop-again-3 c = omega arith
 
+loop-less-4 : tie.Need-loop-less-4 Inv-loop μ-loop
+loop-less-4 c = omega arith
+
+loop-again-4 : tie.Need-loop-again-4 Inv-loop μ-loop
+loop-again-4 c = omega arith
+
+same-length : tie.Need-same-length Inv-loop μ-loop
+same-length c = omega arith
+
 returns : tie.Need-returns Inv-loop μ-loop
 returns c = search needs
 
-pub levels-of-spec : {M : Type 1} → statement M
-levels-of-spec =
+pub find-levels-spec : {M : Type 1} → statement M
+find-levels-spec =
     tie.close
     (tie.spec
     Inv-loop
@@ -80,12 +87,14 @@ levels-of-spec =
     loop-less
     loop-again
     minus-requires
-    add-words
-    mul-words
-    array-write-words
-    minus-requires-2
+    add-put-word
+    put-word-requires
     loop-less-2
     loop-again-2
+    minus-requires-2
     loop-less-3
     loop-again-3
+    loop-less-4
+    loop-again-4
+    same-length
     returns)
