@@ -9,7 +9,6 @@ use lib.ListN.{length, take, drop, replicate, length-drop}
 use lib.Seq.{length-take-le}
 use Rattle.meaning.specs.Table.{tableOf}
 use Rattle.meaning.specs.Masks.{accsOver}
-use Rattle.places.specs.Places.{rowsLength}
 use Rattle.judge.proofs.Passed.{StartPassed}
 use Rattle.engine.proofs.Parts.{whole-rest, rest-after}
 use Rattle.engine.proofs.Starting.{refused-start, taken-start, passed-start}

@@ -1,21 +1,16 @@
 -- `take` meets its contract: the labels' words and the rows' words are lent one after the other.
-use mathlib.Core.Path.{_≡_, sym, ap, ap₂, _∙_, subst}
+use mathlib.Core.Path.{_≡_, sym, ap, ap₂, _∙_}
 use mathlib.Core.List.{List, _++_}
 use Prim.Native.Nat.{ℕ, _-_, _≤_}
 use native.Mathlib.Omega.{arith}
 use borrow.Author.Needs.{needs}
 use borrow.Rule.Slice.PartMut.{putMid, take-put}
 use lib.ListN.{length, take, drop, length-drop}
-use lib.Seq.{length-take-le}
 use Rattle.meaning.specs.Table.{tableOf}
 use Rattle.meaning.specs.Streams.{openedBy}
-use Rattle.meaning.specs.Lent.{onFront}
 use Rattle.places.specs.Places.{rowsLength, rowsPart, labelsPart}
-use Rattle.places.specs.Memory.{memoryIn, rowsWords, labelsWords, openIn, LabelsIn}
+use Rattle.places.specs.Memory.{labelsWords, openIn}
 use Rattle.rows.specs.Steps.{eventOf}
-use Rattle.labels.specs.Fits.{Fits}
-use Rattle.reports.specs.Reports.{leftOf, reportsOf}
-use Rattle.stepping.specs.Stepping.{Stands, stepMemory, leftMemory, countsOf}
 use Rattle.engine.proofs.Parts.{whole-rest, rest-after, fits-of}
 use Rattle.engine.proofs.take.Statement.{statement}
 use Rattle.engine.proofs.take.Tie as tie

@@ -6,7 +6,6 @@ use native.Mathlib.Omega.{arith}
 use native.Mathlib.Nat.{mul-le-mul-right, zero-mul}
 use borrow.Author.Needs.{needs}
 use borrow.Author.Tests.{not-true, not-false}
-use lib.ListN.{length}
 use Rattle.places.specs.Places.{rowAt, rowLength}
 use Rattle.order.specs.declared.Shape.{Shape}
 use Rattle.order.specs.declared.Place.{Place}
