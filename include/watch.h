@@ -21,7 +21,9 @@ extern "C" {
  * of work memory as its place. */
 #define WATCH_RECORD_WORDS 6
 
-/* The answer: the number of reports; the place that refusal 7 carries, and else 0; two words that are 0. */
+/* The answer: the number of reports; the place that refusal 7 carries; the contents entry (refusal 3) or the body (5),
+ * from 1; the entry's field (3: 0 kind, 1 offset, 2 length) or the byte in the body, from 0 (5). A word that the call has
+ * nothing for is 0. */
 #define WATCH_ANSWER_WORDS 4
 
 /* The length of work memory, at most 8100: the words of the rows, and one for each level. Rows are 1 to 64, the depth
@@ -33,9 +35,11 @@ extern "C" {
  *   100  the record's or the answer's length is wrong: judged before all others, and nothing is written
  *     1  the table has under 29 bytes
  *     2  its number of states or labels, its start state or its number of contents entries is out of range
- *     3  a contents entry is not the one that the numbers of states and labels fix
+ *     3  a contents entry is not the one that the numbers of states and labels fix: the answer names the first wrong
+ *        field in file order
  *     4  the table's length is wrong
- *     5  a body names a state that the table does not have, or a final mark is above 1
+ *     5  a body names a state that the table does not have, or a final mark is above 1: the answer names the first such
+ *        byte in file order
  *     6  rows or depth allowed out of range, work memory of the wrong length, or fewer than rows + 1 words for reports
  *     7  record or work memory is not in order: the place is that of the first word of work memory at fault, from 0, or
  *        the length of work memory where the record by itself is not in order

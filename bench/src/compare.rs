@@ -1,11 +1,12 @@
-//! Calls of the library, compared with what the rules foretell, word by word; in runs from the start also with the second evaluator.
+//! Calls of the library, compared with what the rules foretell, word by word; refusals of a table also with the second judgement of the
+//! file, and runs from the start with the second evaluator.
 //!
 //! Every word that a call may write, and some on either side of them, are compared. After a difference a run goes on from what the
 //! rules foretell.
 
 use crate::link;
-use crate::rules::{self, Left, Table};
-use crate::second::Second;
+use crate::rules::{self, Left, Place, Reading};
+use crate::second::{self, Second};
 use std::fmt::Debug;
 
 /// What was compared.
@@ -18,6 +19,8 @@ pub struct Tally {
     pub reports: [u64; 3],
     /// By number; 17 stands for 100.
     pub refused: [u64; 18],
+    /// Refusals 3 and 5 with more than one place that they could name.
+    pub several: [u64; 2],
     pub differed: u64,
 }
 
@@ -71,11 +74,22 @@ impl<T: Copy + PartialEq> Lent<T> {
     }
 }
 
+/// Of every call: what became of the file, and the two words that name a place in it, compared with the second judgement.
+fn same_judgement(t: &mut Tally, file: &[u8], number: u64, answer: &[u64]) {
+    let (meant, wrong) = second::judge_file(file);
+    let first = wrong.first().copied().unwrap_or_default();
+    let number = if number <= 5 { number } else { 0 };
+    t.same("the file's refusal and its place", "the second judgement", &(number, &answer[2..]), &(meant, &first[..]));
+    if wrong.len() > 1 {
+        t.several[(meant == 5) as usize] += 1;
+    }
+}
+
 /// What lent memory holds before a call, where it does not matter.
 pub const OLD: u64 = 0xA5A5_0000_5A5A_1111;
 
 /// A start call, compared with what the rules foretell, which is given back with work memory after it.
-pub fn start(t: &mut Tally, file: &[u8], table: &Result<Table, u64>, rows: u64, depth: u64, old: &[u64]) -> (Left, Vec<u64>) {
+pub fn start(t: &mut Tally, file: &[u8], table: &Reading, rows: u64, depth: u64, old: &[u64]) -> (Left, Vec<u64>) {
     let meant = rules::start(table, rows, depth, old.len());
     let mut work = Lent::new(old, OLD);
     let mut record = Lent::new(&[OLD; 6], OLD);
@@ -85,26 +99,32 @@ pub fn start(t: &mut Tally, file: &[u8], table: &Result<Table, u64>, rows: u64, 
     t.starts += 1;
     t.count(meant.number);
     let after = meant.work.clone().unwrap_or_else(|| old.to_vec());
+    same_judgement(t, file, number, answer.words());
     t.same("start, number", "the rules", &number, &meant.number);
     t.same("start, record", "the rules", &record.back(), &(meant.record.to_vec(), true));
-    t.same("start, answer", "the rules", &answer.back(), &(vec![0; 4], true));
+    t.same("start, answer", "the rules", &answer.back(), &(answer_words(&meant), true));
     t.same("start, work memory", "the rules", &work.back(), &(after.clone(), true));
     t.same("start, the table", "as lent", &lent.back(), &(file.to_vec(), true));
     (meant, after)
+}
+
+/// The four words of an answer: the number of reports, and the three of the place.
+fn answer_words(left: &Left) -> Vec<u64> {
+    [&[left.reports.len() as u64][..], &left.place].concat()
 }
 
 /// After an event: the record that the rules foretell, and what the call said, its reports or the refusal's number, and the place.
 pub struct After {
     pub record: [u64; 6],
     pub said: Result<Vec<u32>, u64>,
-    pub place: u64,
+    pub place: Place,
 }
 
 /// A call for an event, compared with what the rules foretell. Work memory is then as they foretell.
 pub fn event(
     t: &mut Tally,
     file: &[u8],
-    table: &Result<Table, u64>,
+    table: &Reading,
     before: [u64; 6],
     memory: &mut Vec<u64>,
     room: usize,
@@ -129,13 +149,14 @@ pub fn event(
     if let Some(after) = &meant.work {
         memory.clone_from(after);
     }
-    let count = (answer.words()[0] as usize).min(room);
-    let place = answer.words()[1];
+    let [count, place @ ..] = [0, 1, 2, 3].map(|i| answer.words()[i]);
+    let count = (count as usize).min(room);
     let said = if number == 0 { Ok(reports.words()[..count].to_vec()) } else { Err(number) };
     let what = |part| format!("event {byte} after record {before:?}, table {:?}.., {part}", &file[..file.len().min(4)]);
+    same_judgement(t, file, number, answer.words());
     t.same(&what("number"), "the rules", &number, &meant.number);
     t.same(&what("record"), "the rules", &record.back(), &(meant.record.to_vec(), true));
-    t.same(&what("answer"), "the rules", &answer.back(), &(vec![meant.reports.len() as u64, meant.place, 0, 0], true));
+    t.same(&what("answer"), "the rules", &answer.back(), &(answer_words(&meant), true));
     t.same(&what("reports"), "the rules", &reports.back(), &(told, true));
     t.same(&what("work memory"), "the rules", &work.back(), &(memory.clone(), true));
     t.same(&what("the table"), "as lent", &lent.back(), &(file.to_vec(), true));
@@ -147,7 +168,7 @@ pub fn event(
 pub fn run(
     t: &mut Tally,
     file: &[u8],
-    table: &Result<Table, u64>,
+    table: &Reading,
     (rows, depth): (u64, u64),
     mut next: impl FnMut(&[u64; 6], &[u64]) -> Option<u8>,
 ) -> ([u64; 6], Vec<u64>) {

@@ -287,37 +287,62 @@ pub fn wild_memory(c: &mut Chance, n: usize, k: usize) -> ([u64; 6], Vec<u64>) {
 
 /// A table file made wrong, or at times left as it was: each line of 1 to 5 has its kind of damage.
 pub fn damage_table(c: &mut Chance, file: &mut Vec<u8>) {
-    let (n, k) = (file[0] as usize, file[1] as usize);
-    let length = file.len();
-    let wrong = |c: &mut Chance, x: u8| c.pick(&[x ^ 1 << (c.0 % 8), x.wrapping_add(1), x.wrapping_sub(1), 0, 255]);
-    match c.below(12) {
+    let (n, k) = (file[0], file[1]);
+    let length = file.len() as u64;
+    match c.below(16) {
         0 => file.truncate(c.below(30) as usize),
-        1 => file[0] = c.pick(&[0, 65, 255, 64, 1, n as u8 - 1]),
-        2 => file[1] = c.pick(&[0, 33, 255, 32, 1, k as u8 - 1]),
-        3 => file[2] = c.pick(&[n as u8, 64, 255, n as u8 - 1]),
+        1 => file[0] = c.pick(&[0, 65, 255, 64, 1, n - 1]),
+        2 => file[1] = c.pick(&[0, 33, 255, 32, 1, k - 1]),
+        3 => file[2] = c.pick(&[n, 64, 255, n - 1]),
         4 => file[3] = c.pick(&[4, 6, 0, 255]),
-        5 | 6 => {
-            let at = c.between(4, 28) as usize;
-            file[at] = wrong(c, file[at]);
+        5..=8 => damage_contents(c, file),
+        9 => file.truncate(c.between(28, length - 1) as usize),
+        10 => file.resize(file.len() + c.between(1, 9) as usize, c.pick(&[0, 1, 255])),
+        11..=13 => damage_bodies(c, file),
+        14 => {
+            damage_contents(c, file);
+            damage_bodies(c, file);
         }
-        7 => file.truncate(c.between(28, length as u64 - 1) as usize),
-        8 => file.resize(length + c.between(1, 9) as usize, c.pick(&[0, 1, 255])),
-        9 => {
-            let at = c.between(29, length as u64 - 1) as usize;
-            file[at] = c.pick(&[n as u8, n as u8 - 1, 1, 2, 255]);
+        _ => damage_bytes(c, file, 0, length - 1),
+    }
+}
+
+/// One to four bytes between two places made wrong, or left as they were.
+fn damage_bytes(c: &mut Chance, file: &mut [u8], first: u64, last: u64) {
+    for _ in 0..c.between(1, 4) {
+        let byte = &mut file[c.between(first, last) as usize];
+        *byte = c.pick(&[*byte ^ 1 << (c.0 % 8), byte.wrapping_add(1), byte.wrapping_sub(1), 0, 255]);
+    }
+}
+
+/// Contents made wrong, in one place or in several, or, where values are the same, left as they were.
+fn damage_contents(c: &mut Chance, file: &mut [u8]) {
+    let entry = 4 + 5 * c.below(5) as usize;
+    match c.below(8) {
+        // Of an offset or a length the low byte only, or the high byte only; then the two exchanged.
+        0 => file[entry + c.pick(&[1, 3])] ^= c.between(1, 255) as u8,
+        1 => file[entry + c.pick(&[2, 4])] ^= c.between(1, 255) as u8,
+        2 => file[entry + c.pick(&[1, 3])..][..2].reverse(),
+        // An offset and a length exchanged, and an entry with the next one.
+        3 => file[entry + 1..][..4].rotate_left(2),
+        4 => file[entry.min(19)..][..10].rotate_left(5),
+        // What other sizes would fix.
+        5 => {
+            let (n, k) = (c.between(1, 9) as usize, c.between(1, 4) as usize);
+            file[4..29].copy_from_slice(&random_table(c, n, k)[4..29]);
         }
-        10 => {
-            // At either side of a border between bodies.
-            let border = c.pick(&[29, 29 + k, 29 + k + n * k, 29 + k + n * k + n, length - n, length]);
-            let at = (border - c.below(2) as usize).clamp(29, length - 1);
-            file[at] = c.pick(&[n as u8, n as u8 - 1, 2, 1, 64]);
-        }
-        _ => {
-            for _ in 0..c.between(1, 4) {
-                let at = c.below(length as u64) as usize;
-                file[at] = wrong(c, file[at]);
-            }
-        }
+        _ => damage_bytes(c, file, 4, 28),
+    }
+}
+
+/// Bytes of the bodies set, many of them at either side of a border, and at times to what may stand there.
+fn damage_bodies(c: &mut Chance, file: &mut [u8]) {
+    let (n, k, length) = (file[0] as usize, file[1] as usize, file.len());
+    let borders = [29, 29 + k, 29 + k + n * k, 29 + k + n * k + n, length - n, length];
+    for _ in 0..c.pick(&[1, 2, 3, 9]) {
+        let beside = (c.pick(&borders) - c.below(2) as usize).clamp(29, length - 1);
+        let at = c.pick(&[beside, 29 + c.0 as usize % (length - 29)]);
+        file[at] = c.pick(&[n as u8, n as u8 - 1, 1, 2, 64, 255]);
     }
 }
 

@@ -1,5 +1,5 @@
-//! The rules of 01, and of 02's K2, read to the letter: for any table, record, work memory, room for reports and byte, every word
-//! that a call leaves behind, or the refusal with its place.
+//! The rules of 01, and of 02's K2 and K3, read to the letter: for any table, record, work memory, room for reports and byte, every
+//! word that a call leaves behind, or the refusal with its place.
 //!
 //! Sets are vectors of bools and are closed until nothing is added. Nothing here is quick, and nothing is shared with the
 //! expert program or with the evaluator in second.rs.
@@ -21,11 +21,24 @@ pub struct Table {
     pub acc: Vec<Vec<bool>>,
 }
 
-/// What a call leaves behind. `place` is that of refusal 7; work memory is given where the call was taken.
+/// Where a refusal is at fault, 0 where it names no such place: the word of work memory (7); the contents entry (3) or the body (5),
+/// from 1; the entry's field (0 kind, 1 offset, 2 length) or the byte in the body.
+pub type Place = [u64; 3];
+
+/// The refusal of a table file.
+pub struct Refused {
+    number: u64,
+    place: Place,
+}
+
+/// What a file is read as.
+pub type Reading = Result<Table, Refused>;
+
+/// What a call leaves behind. Work memory is given where the call was taken.
 #[derive(Debug, Clone, PartialEq)]
 pub struct Left {
     pub number: u64,
-    pub place: u64,
+    pub place: Place,
     pub record: [u64; 6],
     pub reports: Vec<u32>,
     pub work: Option<Vec<u64>>,
@@ -38,33 +51,39 @@ struct Row {
     levels: Vec<[u64; 3]>,
 }
 
-/// Refusals 1 to 5, or the table.
-pub fn read(file: &[u8]) -> Result<Table, u64> {
+/// Refusals 1 to 5, or the table. Contents and bodies are read entry by entry and body by body, up to the first wrong place.
+pub fn read(file: &[u8]) -> Reading {
+    let refused = |number| Err(Refused { number, place: [0; 3] });
+    let refused_at = |number, i: usize, inside: usize| Err(Refused { number, place: [0, i as u64 + 1, inside as u64] });
     if file.len() < 29 {
-        return Err(1);
+        return refused(1);
     }
     let (n, k, start) = (file[0] as usize, file[1] as usize, file[2] as usize);
     if n < 1 || n > 64 || k < 1 || k > 32 || start >= n || file[3] != 5 {
-        return Err(2);
+        return refused(2);
     }
     let lengths = [k, n * k, n, n * n, n];
     let mut offset = 29;
-    for (i, length) in lengths.iter().enumerate() {
-        let entry = &file[4 + 5 * i..9 + 5 * i];
-        let wanted = [i as u8 + 1, (offset % 256) as u8, (offset / 256) as u8, (length % 256) as u8, (length / 256) as u8];
-        if entry != wanted {
-            return Err(3);
+    for (i, &length) in lengths.iter().enumerate() {
+        let at = 4 + 5 * i;
+        let two_bytes = |at: usize| file[at] as usize + 256 * file[at + 1] as usize;
+        let fields = [(file[at] as usize, i + 1), (two_bytes(at + 1), offset), (two_bytes(at + 3), length)];
+        if let Some(field) = fields.iter().position(|(is, fixed)| is != fixed) {
+            return refused_at(3, i, field);
         }
         offset += length;
     }
     if file.len() != 29 + k + n * k + n + n * n + n {
-        return Err(4);
+        return refused(4);
     }
     let mut rest = file[29..].iter().map(|&b| b as usize);
     let mut body = |length: usize| -> Vec<usize> { rest.by_ref().take(length).collect() };
     let bodies: Vec<Vec<usize>> = lengths.iter().map(|&length| body(length)).collect();
-    if bodies[..4].iter().flatten().any(|&q| q >= n) || bodies[4].iter().any(|&b| b > 1) {
-        return Err(5);
+    for (i, body) in bodies.iter().enumerate() {
+        let greatest = if i < 4 { n - 1 } else { 1 };
+        if let Some(byte) = body.iter().position(|&x| x > greatest) {
+            return refused_at(5, i, byte);
+        }
     }
     let mut table = Table {
         n,
@@ -152,19 +171,20 @@ fn sizes_right(rows: u64, depth: u64, work: usize) -> bool {
 }
 
 /// The start call: what it leaves behind.
-pub fn start(table: &Result<Table, u64>, rows: u64, depth: u64, work: usize) -> Left {
-    let refused = |number| Left { number, place: 0, record: [0; 6], reports: vec![], work: None };
+pub fn start(table: &Reading, rows: u64, depth: u64, work: usize) -> Left {
+    let refused = |number, place| Left { number, place, record: [0; 6], reports: vec![], work: None };
     let table = match table {
-        Err(number) => return refused(*number),
+        Err(why) => return refused(why.number, why.place),
         Ok(table) => table,
     };
     if !sizes_right(rows, depth, work) {
-        return refused(6);
+        return refused(6, [0; 3]);
     }
     let others: Vec<bool> = table.finals.iter().map(|f| !f).collect();
     let level = [table.start as u64, table.safe(&table.finals), table.safe(&others)];
     let row = Row { position: 0, levels: vec![level] };
-    Left { number: 0, place: 0, record: [rows, depth, 0, 0, 0, 0], reports: vec![], work: Some(words(&[row], &[], rows, depth)) }
+    let work = Some(words(&[row], &[], rows, depth));
+    Left { number: 0, place: [0; 3], record: [rows, depth, 0, 0, 0, 0], reports: vec![], work }
 }
 
 /// The words that rows stand for, and behind them those of the levels, which were opened with these labels.
@@ -212,21 +232,22 @@ fn fault(n: usize, k: usize, record: &[u64; 6], work: &[u64]) -> Option<u64> {
 }
 
 /// The call for one event: what it leaves behind.
-pub fn event(table: &Result<Table, u64>, record: [u64; 6], work: &[u64], reports: usize, byte: u8) -> Left {
-    let refused = |number, place| Left { number, place, record, reports: vec![], work: None };
+pub fn event(table: &Reading, record: [u64; 6], work: &[u64], reports: usize, byte: u8) -> Left {
+    let refused_at = |number, place| Left { number, place, record, reports: vec![], work: None };
+    let refused = |number| refused_at(number, [0; 3]);
     let table = match table {
-        Err(number) => return refused(*number, 0),
+        Err(why) => return refused_at(why.number, why.place),
         Ok(table) => table,
     };
     let [rows, allowed, depth, alive, read, finished] = record;
     if !sizes_right(rows, allowed, work.len()) || (reports as u64) < rows + 1 {
-        return refused(6, 0);
+        return refused(6);
     }
-    if let Some(place) = fault(table.n, table.k, &record, work) {
-        return refused(7, place);
+    if let Some(word) = fault(table.n, table.k, &record, work) {
+        return refused_at(7, [word, 0, 0]);
     }
     if finished == 1 {
-        return refused(8, 0);
+        return refused(8);
     }
     let (opens, points) = (byte <= 31, (32..=63).contains(&byte));
     let names = (66..=97).contains(&byte);
@@ -243,7 +264,7 @@ pub fn event(table: &Result<Table, u64>, record: [u64; 6], work: &[u64], reports
         (14, (opens || points) && read == LAST),
     ];
     if let Some((number, _)) = lines.iter().find(|(_, applies)| *applies) {
-        return refused(*number, 0);
+        return refused(*number);
     }
     let mut now: Vec<Row> = work
         .chunks(1 + 3 * (allowed as usize + 1))
@@ -257,7 +278,7 @@ pub fn event(table: &Result<Table, u64>, record: [u64; 6], work: &[u64], reports
         let end = |row: &Row| (2 * row.position) as u32 + table.finals[row.levels[0][0] as usize] as u32;
         return Left {
             number: 0,
-            place: 0,
+            place: [0; 3],
             record: [rows, allowed, 0, 0, read, 1],
             reports: now[1..].iter().map(end).collect(),
             work: Some(vec![0; work.len()]),
@@ -307,7 +328,7 @@ pub fn event(table: &Result<Table, u64>, record: [u64; 6], work: &[u64], reports
     }
     next[3] = left.len() as u64 - 1;
     if next[3] > rows {
-        return refused(15, 0);
+        return refused(15);
     }
-    Left { number: 0, place: 0, record: next, reports: told, work: Some(words(&left, &labels, rows, allowed)) }
+    Left { number: 0, place: [0; 3], record: next, reports: told, work: Some(words(&left, &labels, rows, allowed)) }
 }

@@ -3,9 +3,10 @@
 //! It keeps the whole stream. The run marked at a position is worked out from the stream's first byte at every event: a stack of
 //! states, one for each open level; so are the labels of the open levels. Which states some hedge leads to from a state is found
 //! by saturation. From the newest level down to level 0 it works out the end states that some completion reaches: a position is
-//! certain if all of them are final, ruled out if none is.
+//! certain if all of them are final, ruled out if none is. Assumed: the file is a table, and the watch was started with these rows and
+//! this depth.
 //!
-//! Assumed: the file is a table, and the watch was started with these rows and this depth.
+//! Beside it, a second judgement of files: by the bytes that are wrong, counted through the whole file.
 
 pub struct Second<'a> {
     file: &'a [u8],
@@ -208,6 +209,52 @@ impl<'a> Second<'a> {
         self.doubt = doubt;
         Ok(told)
     }
+}
+
+/// What a file is refused for as a table, 0 where it is one, and for 3 and 5 every wrong place, in file order: entry and field, or body
+/// and byte.
+pub fn judge_file(file: &[u8]) -> (u64, Vec<[u64; 2]>) {
+    if file.len() < 29 {
+        return (1, vec![]);
+    }
+    let [n, k, start] = [0, 1, 2].map(|at| file[at] as usize);
+    if n == 0 || n > 64 || k == 0 || k > 32 || start >= n || file[3] != 5 {
+        return (2, vec![]);
+    }
+    let marks = 29 + k * (1 + n);
+    let finals = marks + n * (1 + n);
+    let borders = [29, 29 + k, marks, marks + n, finals, finals + n];
+    let wrong = wrong_fields(file, borders);
+    if !wrong.is_empty() {
+        return (3, wrong);
+    }
+    if file.len() != borders[5] {
+        return (4, vec![]);
+    }
+    let wrong = wrong_bytes(file, borders, n as u8);
+    (if wrong.is_empty() { 0 } else { 5 }, wrong)
+}
+
+/// The contents, held against the 25 bytes that the bodies' borders fix: a wrong byte's place among them says entry and field.
+fn wrong_fields(file: &[u8], borders: [usize; 6]) -> Vec<[u64; 2]> {
+    let fixed = (0..5).flat_map(|i| {
+        let [offset, length] = [borders[i], borders[i + 1] - borders[i]].map(|x| (x as u16).to_le_bytes());
+        [i as u8 + 1, offset[0], offset[1], length[0], length[1]]
+    });
+    let wrong = (0..).zip(file[4..29].iter().zip(fixed)).filter(|(_, (byte, fixed))| *byte != fixed);
+    let mut places: Vec<_> = wrong.map(|(at, _)| [at / 5 + 1, (at % 5 + 1) / 2]).collect();
+    places.dedup();
+    places
+}
+
+/// The bodies as one run of bytes, of which those before the final states are below n: a wrong byte's place in the file says body and byte.
+fn wrong_bytes(file: &[u8], borders: [usize; 6], n: u8) -> Vec<[u64; 2]> {
+    let is_wrong = |at: usize| if at < borders[4] { file[at] >= n } else { file[at] > 1 };
+    let place = |at: usize| {
+        let body = borders.iter().filter(|&&border| border <= at).count();
+        [body as u64, (at - borders[body - 1]) as u64]
+    };
+    (29..file.len()).filter(|&at| is_wrong(at)).map(place).collect()
 }
 
 /// A close, whether it names its label or not.

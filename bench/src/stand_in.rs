@@ -8,32 +8,43 @@ use std::slice::{from_raw_parts, from_raw_parts_mut};
 
 const LAST: u64 = 2_147_483_647;
 
-/// 1 to 5, or n and k.
-fn judge_table(file: &[u8]) -> Result<(u64, u64), u64> {
+/// 1 to 5 and the two words of the place, or n and k.
+fn judge_table(file: &[u8]) -> Result<(u64, u64), (u64, [u64; 2])> {
     if file.len() < 29 {
-        return Err(1);
+        return Err((1, [0; 2]));
     }
     let (n, k) = (file[0] as usize, file[1] as usize);
     if !(1..=64).contains(&n) || !(1..=32).contains(&k) || file[2] as usize >= n || file[3] != 5 {
-        return Err(2);
+        return Err((2, [0; 2]));
     }
     let mut offset = 29;
-    for (i, length) in [k, n * k, n, n * n, n].into_iter().enumerate() {
-        let at = 4 + 5 * i;
+    let mut wrong = None;
+    for (i, length) in (1..).zip([k, n * k, n, n * n, n]) {
+        let at = 5 * i - 1;
         let two = |at: usize| file[at] as usize + 256 * file[at + 1] as usize;
-        if file[at] as usize != i + 1 || two(at + 1) != offset || two(at + 3) != length {
-            return Err(3);
-        }
+        let field = match (file[at] as usize == i, two(at + 1) == offset, two(at + 3) == length) {
+            (false, _, _) => Some(0),
+            (_, false, _) => Some(1),
+            (_, _, false) => Some(2),
+            _ => None,
+        };
+        wrong = wrong.or(field.map(|field| (3, [i as u64, field])));
         offset += length;
     }
+    if let Some(place) = wrong {
+        return Err(place);
+    }
     if file.len() != offset {
-        return Err(4);
+        return Err((4, [0; 2]));
     }
-    let (states, finals) = file[29..].split_at(offset - 29 - n);
-    if states.iter().any(|&q| q as usize >= n) || finals.iter().any(|&b| b > 1) {
-        return Err(5);
+    let mut rest = &file[29..];
+    for (i, length) in (1..).zip([k, n * k, n, n * n, n]) {
+        let (body, after) = rest.split_at(length);
+        let fault = |&b: &u8| if i == 5 { b > 1 } else { b as usize >= n };
+        wrong = wrong.or(body.iter().position(fault).map(|j| (5, [i, j as u64])));
+        rest = after;
     }
-    Ok((n as u64, k as u64))
+    wrong.map_or(Ok((n as u64, k as u64)), Err)
 }
 
 /// How many words the rows have.
@@ -147,7 +158,8 @@ pub unsafe extern "C" fn watch_start(
     }
     answer.fill(0);
     record.fill(0);
-    if let Err(number) = judge_table(file) {
+    if let Err((number, place)) = judge_table(file) {
+        answer[2..].copy_from_slice(&place);
         return number;
     }
     if !sizes_right(rows, depth, work.len()) {
@@ -181,7 +193,10 @@ pub unsafe extern "C" fn watch_event(
     }
     answer.fill(0);
     let (n, k) = match judge_table(file) {
-        Err(number) => return number,
+        Err((number, place)) => {
+            answer[2..].copy_from_slice(&place);
+            return number;
+        }
         Ok(sizes) => sizes,
     };
     if !sizes_right(record[0], record[1], work.len()) || (reports.len() as u64) < record[0] + 1 {

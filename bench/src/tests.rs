@@ -15,11 +15,11 @@ mod stand_in;
 
 use compare::{event, run, start, Lent, Tally, OLD};
 use inputs::{Chance, Way, WAYS};
-use rules::Table;
+use rules::Reading;
 use second::Second;
 use std::process::ExitCode;
 
-/// 01's worked cases, with the numbers that stand there, case 12 as K2 has it; then some of K2's own.
+/// 01's worked cases, with the numbers that stand there, case 12 as K2 has it; then some of K2's own, and K3's two lines.
 fn worked_cases(t: &mut Tally) {
     let (w, l) = (inputs::table_w(), inputs::table_l());
     let (tw, tl) = (rules::read(&w), rules::read(&l));
@@ -66,10 +66,16 @@ fn worked_cases(t: &mut Tally) {
             record = after.record;
         }
     }
+    for (at, number, place) in [(10, 3, [0, 2, 1]), (46 + 7, 5, [0, 4, 7])] {
+        let mut file = w.clone();
+        file[at] = 5;
+        let (left, _) = start(t, &file, &rules::read(&file), 64, 40, &[OLD; 8100]);
+        t.same("a line of K3", "02", &(left.number, left.place), &(number, place));
+    }
 }
 
 /// A random stream on a table: so many bytes, then often closes and an end, then some bytes after it.
-fn random_run(t: &mut Tally, c: &mut Chance, file: &[u8], table: &Result<Table, u64>, sizes: (u64, u64), bytes: u64) {
+fn random_run(t: &mut Tally, c: &mut Chance, file: &[u8], table: &Reading, sizes: (u64, u64), bytes: u64) {
     let mut way = c.pick(&WAYS);
     let (mut left, mut after) = (bytes, c.below(3));
     let ends = !c.one_in(4);
@@ -200,9 +206,9 @@ fn wild_runs(t: &mut Tally, c: &mut Chance) {
     }
 }
 
-/// Files that are no tables, to both calls.
+/// Files that are no tables, to both calls; many of them wrong in several places.
 fn damaged_tables(t: &mut Tally, c: &mut Chance) {
-    for i in 0..6000 {
+    for i in 0..20000 {
         let n = if i % 20 == 0 { 64 } else { c.between(1, 9) as usize };
         let k = if i % 10 == 0 { 32 } else { c.between(1, 4) as usize };
         let mut file = inputs::random_table(c, n, k);
@@ -216,6 +222,51 @@ fn damaged_tables(t: &mut Tally, c: &mut Chance) {
         let (record, mut work) = inputs::wild_memory(c, n, k);
         let byte = inputs::next_byte(c, WAYS[0], k, inputs::newest_label(&record, &work));
         event(t, &file, &table, record, &mut work, record[0] as usize + 1, byte);
+    }
+}
+
+/// The places of a table at which it is damaged, in file order, each with the answer to it: where it is in the file, the refusal, and the
+/// two words that name it. Every byte of the contents; of each body, found by its entry, the first byte, the last and one between.
+fn places_of(c: &mut Chance, file: &[u8]) -> Vec<(usize, u64, [u64; 2])> {
+    let mut places = vec![];
+    let fields = [0, 1, 1, 2, 2];
+    for entry in 0..5 {
+        places.extend((0..5).map(|i| (4 + 5 * entry + i, 3, [entry as u64 + 1, fields[i]])));
+    }
+    for body in 0..5 {
+        let entry = &file[4 + 5 * body..];
+        let [offset, length] = [1, 3].map(|i| u16::from_le_bytes([entry[i], entry[i + 1]]) as usize);
+        let between = c.below(length as u64) as usize;
+        places.extend([0, between, length - 1].map(|byte| (offset + byte, 5, [body as u64 + 1, byte as u64])));
+    }
+    places
+}
+
+/// Tables wrong in one place, and in every two places: the first of the two is named, by both calls.
+fn wrong_places(t: &mut Tally, c: &mut Chance) {
+    for i in 0..24 {
+        let (n, k) = [(64, 32), (1, 1), (64, 1), (1, 32), (5, 2), (c.between(2, 63) as usize, c.between(2, 31) as usize)][i % 6];
+        let file = inputs::random_table(c, n, k);
+        let places = places_of(c, &file);
+        let wrong = |c: &mut Chance, (at, number, [part, _]): (usize, u64, [u64; 2])| match (number, part) {
+            (3, _) => file[at] ^ c.between(1, 255) as u8,
+            (_, 5) => c.between(2, 255) as u8,
+            _ => c.between(n as u64, 255) as u8,
+        };
+        for (i, &first) in places.iter().enumerate() {
+            for &other in &places[i..] {
+                let mut damaged = file.clone();
+                damaged[other.0] = wrong(c, other);
+                damaged[first.0] = wrong(c, first);
+                let table = rules::read(&damaged);
+                let (_, number, [part, inside]) = first;
+                let (left, mut work) = start(t, &damaged, &table, 1, 1, &[OLD; 15]);
+                t.same("a wrong place, start", "its making", &(left.number, left.place), &(number, [0, part, inside]));
+                let after = event(t, &damaged, &table, [1, 1, 0, 0, 0, 0], &mut work, 2, 0);
+                t.same("a wrong place, event", "its making", &(after.said, after.place), &(Err(number), [0, part, inside]));
+            }
+        }
+        t.tables += 1;
     }
 }
 
@@ -280,7 +331,7 @@ fn level_words(t: &mut Tally, c: &mut Chance) {
             for (damage, word, place) in [(at, wrong, at), (work.len() - 1, u64::MAX, at), (first, u64::MAX, first), (0, 1, 0)] {
                 damaged[damage] = word;
                 let after = event(t, &file, &table, record, &mut damaged, rows as usize + 1, byte);
-                t.same("a damaged word of a level", "its place", &(after.said, after.place), &(Err(7), place as u64));
+                t.same("a damaged word of a level", "its place", &(after.said, after.place), &(Err(7), [place as u64, 0, 0]));
             }
         }
     }
@@ -307,7 +358,7 @@ fn labelled_stream(c: &mut Chance, k: u64) -> Vec<u8> {
 }
 
 /// The first event that is refused, from 1, and its number, with 64 rows and depth 40.
-fn first_refusal(t: &mut Tally, file: &[u8], table: &Result<Table, u64>, bytes: &[u8]) -> Option<(usize, u64)> {
+fn first_refusal(t: &mut Tally, file: &[u8], table: &Reading, bytes: &[u8]) -> Option<(usize, u64)> {
     let (first, mut work) = start(t, file, table, 64, 40, &[OLD; 8100]);
     let mut record = first.record;
     for (i, &byte) in bytes.iter().enumerate() {
@@ -469,6 +520,7 @@ fn main() -> ExitCode {
     let examples = examples(&mut t, &mut c);
     wild_runs(&mut t, &mut c);
     damaged_tables(&mut t, &mut c);
+    wrong_places(&mut t, &mut c);
     wrong_sizes(&mut t, &mut c);
     out_of_order(&mut t, &mut c);
     level_words(&mut t, &mut c);
@@ -482,6 +534,8 @@ fn main() -> ExitCode {
     println!("reports: {}; {own} at the position's own event, {later} later, {end} at the end", own + later + end);
     let numbers: Vec<String> = (1..=16).map(|i| format!("{i}: {}", t.refused[i])).collect();
     println!("refusals: {}, 100: {}", numbers.join(", "), t.refused[17]);
+    let ([_, _, _, entries, _, bodies, ..], [of_entries, of_bodies]) = (t.refused, t.several);
+    println!("places of 3: {entries}, {of_entries} of them the first of several; of 5: {bodies}, {of_bodies} of them");
     if !missed.is_empty() {
         println!("refusals never seen: {missed:?} (17 stands for 100)");
     }

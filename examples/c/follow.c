@@ -6,6 +6,18 @@
 
 enum { ROWS = 64, DEPTH = 40, LONGEST_TABLE = 6333 };
 
+/* The last line of a refused call; refusals 3 and 5 say where the table is wrong. */
+static void print_refusal(uint64_t refusal, const uint64_t *answer, uint64_t event) {
+    static const char *const fields[] = {"kind", "offset", "length"};
+
+    printf("refused %" PRIu64, refusal);
+    if (refusal == 3)
+        printf(" entry %" PRIu64 " %s", answer[2], fields[answer[3]]);
+    else if (refusal == 5)
+        printf(" body %" PRIu64 " byte %" PRIu64, answer[2], answer[3]);
+    printf(" at %" PRIu64 "\n", event);
+}
+
 int main(int count, char **names) {
     static uint8_t table[LONGEST_TABLE + 1]; /* a byte more, so that a longer file is refused */
     static uint64_t work[WATCH_WORK_WORDS(ROWS, DEPTH)];
@@ -35,7 +47,7 @@ int main(int count, char **names) {
             printf("%" PRIu64 " %s %" PRIu32 "\n", events, reports[i] % 2 ? "selected" : "failed", reports[i] / 2);
     }
     if (refusal)
-        printf("refused %" PRIu64 " at %" PRIu64 "\n", refusal, events);
+        print_refusal(refusal, answer, events);
     else
         printf("%s %" PRIu64 " events %" PRIu64 " positions\n", record[5] ? "end" : "cut", events, record[4]);
     return 0;

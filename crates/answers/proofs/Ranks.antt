@@ -12,9 +12,9 @@ use Rattle.answers.specs.Answers.{refusalNumber, refusalRank, checked, o
 pub number-at-rank : (w : Refusal) → refusalNumber w ≡ getD (0 ∷ checked) (refusalRank w) 0
 number-at-rank (why.Table file.Short) = refl
 number-at-rank (why.Table file.Header) = refl
-number-at-rank (why.Table file.Contents) = refl
+number-at-rank (why.Table (file.Contents entry x)) = refl
 number-at-rank (why.Table file.Length) = refl
-number-at-rank (why.Table file.Body) = refl
+number-at-rank (why.Table (file.Body body byte)) = refl
 number-at-rank why.Sizes = refl
 number-at-rank (why.Order place) = refl
 number-at-rank why.Finished = refl

@@ -1,4 +1,4 @@
--- What a call answers, with the refusals' numbers and their order of checking (01, and 02 from K2 on). Definitions only.
+-- What a call answers, with the refusals' numbers, their order of checking and their places (01, and 02 from K2 on). Definitions only.
 use mathlib.Core.List.{List, [], _∷_}
 use Prim.Native.Nat.{ℕ}
 use Rattle.table.specs.File as file
@@ -6,6 +6,7 @@ use Rattle.answers.specs.declared.Record.{Record}
 use Rattle.answers.specs.declared.Answer.{Answer}
 use Rattle.answers.specs.declared.Outcome.{Outcome}
 use Rattle.answers.specs.declared.Outcome.the-variants.{Taken, Refused}
+use Rattle.answers.specs.declared.Place.{Place}
 use Rattle.answers.specs.declared.Refusal.{Refusal}
 use Rattle.answers.specs.declared.Refusal.the-variants as why
 
@@ -51,6 +52,28 @@ outcomeNumber (Refused why) = refusalNumber why
 abbrev pub outcomeRank : Outcome → ℕ
 outcomeRank (Taken reports) = 0
 outcomeRank (Refused why) = refusalRank why
+
+-- The place that a refusal names.
+abbrev pub nowhere : Place
+nowhere = record { word = 0; part = 0; inside = 0 }
+
+abbrev pub placeOf : Refusal → Place
+placeOf (why.Table r) = record { word = 0; part = file.refusalPart r; inside = file.refusalInside r }
+placeOf why.Sizes = nowhere
+placeOf (why.Order place) = record { word = place; part = 0; inside = 0 }
+placeOf why.Finished = nowhere
+placeOf why.Unknown = nowhere
+placeOf why.Label = nowhere
+placeOf why.NothingOpen = nowhere
+placeOf why.ClosingLabel = nowhere
+placeOf why.TooDeep = nowhere
+placeOf why.LevelOpen = nowhere
+placeOf why.Positions = nowhere
+placeOf why.Rows = nowhere
+
+abbrev pub outcomePlace : Outcome → Place
+outcomePlace (Taken reports) = nowhere
+outcomePlace (Refused why) = placeOf why
 
 abbrev pub refusedOf : Record → Refusal → Answer
 refusedOf r why = record { next = r; outcome = Refused why }

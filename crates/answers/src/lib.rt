@@ -5,7 +5,7 @@ ghost use mathlib.Core.Path.{_≡_};
 ghost use Prim.Native.Nat.{_<_};
 ghost use Rattle.answers.specs.Record.{startedOf, noRecord, deeperOf, shallowerOf, oneMoreOf, withAlive, finishedOf};
 ghost use Rattle.answers.specs.Bytes.{meaningOf};
-ghost use Rattle.answers.specs.Answers.{refusalNumber, outcomeNumber, refusedOf, takenOf};
+ghost use Rattle.answers.specs.Answers.{refusalNumber, outcomeNumber, nowhere, placeOf, outcomePlace, refusedOf, takenOf};
 
 pub struct Record {
     pub rows: u64,
@@ -110,6 +110,28 @@ pub fn event_of(byte: u8) -> Event
     }
 }
 
+// The place that a refusal names, in three numbers; 0 where it names none.
+pub struct Place {
+    // 7: the word of work memory, from 0.
+    pub word: u64,
+    // 3: the contents entry; 5: the body, both from 1.
+    pub part: u64,
+    // 3: the entry's field (0 kind, 1 offset, 2 length); 5: the byte in the body, from 0.
+    pub inside: u64,
+}
+
+impl Place {
+    pub fn none() -> Place
+        ensures { λ r. ⌜ r ≡ nowhere ⌝ }
+    {
+        Place {
+            word: 0,
+            part: 0,
+            inside: 0,
+        }
+    }
+}
+
 // Why a call is refused, in the order of checking; the first five are the table's.
 pub enum Refusal {
     Table(table::Refusal),
@@ -157,6 +179,25 @@ impl Refusal {
             Refusal::Rows => 15,
         }
     }
+
+    // The place that it names.
+    pub fn place(self) -> Place
+        ensures { λ r. ⌜ r ≡ placeOf self ⌝ }
+    {
+        match self {
+            Refusal::Table(why) => Place {
+                word: 0,
+                part: why.part(),
+                inside: why.inside(),
+            },
+            Refusal::Order(place) => Place {
+                word: place,
+                part: 0,
+                inside: 0,
+            },
+            _ => Place::none(),
+        }
+    }
 }
 
 // What became of a call: taken, with the number of reports, or refused.
@@ -173,6 +214,16 @@ impl Outcome {
         match self {
             Outcome::Taken(_) => 0,
             Outcome::Refused(why) => why.number(),
+        }
+    }
+
+    // The refusal's place, and none where the call was taken.
+    pub fn place(self) -> Place
+        ensures { λ r. ⌜ r ≡ outcomePlace self ⌝ }
+    {
+        match self {
+            Outcome::Taken(_) => Place::none(),
+            Outcome::Refused(why) => why.place(),
         }
     }
 }

@@ -11,7 +11,8 @@ use lib.ListN.{length, replicate, length-replicate}
 use Rattle.meaning.specs.Masks.{added, within}
 use Rattle.meaning.specs.Streams.{Point}
 use Rattle.meaning.proofs.Tests.{and-left, and-right}
-use Rattle.order.specs.Order.{firstFrom, firstFault}
+use Rattle.meaning.specs.Search.{searched}
+use Rattle.order.specs.Order.{firstFault}
 use Rattle.answers.specs.declared.Outcome.{Outcome}
 use Rattle.answers.specs.declared.Outcome.the-variants.{Taken, Refused}
 use Rattle.answers.specs.Answers.{outcomeNumber, refusalNumber}
@@ -73,7 +74,7 @@ Met f g =
     × (watching g 1 2 (before 1 2) (map (calling 1) (32 ∷ 32 ∷ 65 ∷ [])) .stream ≡ record { events = Point 0 ∷ Point 0 ∷ []; ended = true })
 
 pub met : Met tableW tableL
-unfolding added within firstFrom firstFault
+unfolding added within searched firstFault
 met = (refl, refl, refl)
 
 -- Cases 7, 9 and 10 with 64 rows and depth 40.

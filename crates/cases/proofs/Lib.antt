@@ -1,4 +1,5 @@
 pub mod Cases
 pub mod EachNumber
+pub mod WrongPlaces
 pub mod AllRoom
 pub mod Useless

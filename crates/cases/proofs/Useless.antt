@@ -6,7 +6,8 @@ use Prim.Native.Nat.{ℕ, _+_, _<_}
 use native.Mathlib.Omega.{arith}
 use lib.ListN.{getD, set, length, take}
 use Rattle.meaning.specs.Masks.{added, within}
-use Rattle.order.specs.Order.{firstFrom, firstFault}
+use Rattle.meaning.specs.Search.{searched}
+use Rattle.order.specs.Order.{firstFault}
 use Rattle.answers.specs.declared.Record.{Record}
 use Rattle.answers.specs.declared.Answer.{Answer}
 use Rattle.answers.specs.declared.Event.{Event}
@@ -60,11 +61,11 @@ module _ (f : List ℕ) where
       × (given f otherMemory (calling 2 33) ≡ 2 ∷ 4 ∷ [])
 
 two-events : TwoEvents tableW
-unfolding added within firstFrom firstFault
+unfolding added within searched firstFault
 two-events = (refl, refl, refl, refl, refl, refl, refl, refl, refl)
 
 others : Others tableW
-unfolding added within firstFrom firstFault
+unfolding added within searched firstFault
 others = (refl, refl, refl, refl)
 
 ---------------------------------------------------------------- no useless watch

@@ -1,4 +1,5 @@
 pub mod Tables
 pub mod Cases
 pub mod EachNumber
+pub mod WrongPlaces
 pub mod Useless

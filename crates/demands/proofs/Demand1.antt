@@ -21,6 +21,7 @@ use Rattle.engine.proofs.Numbers.{answer-rank, event-exactly, event-taken, refu
 use Rattle.demands.specs.Watching.{countOf}
 use Rattle.demands.specs.Demands.{Demand1, StartDemand1}
 use Rattle.demands.proofs.FirstWrong.{place-is}
+use Rattle.demands.proofs.Named.{event-named, start-named}
 
 -- Every number of a list is below k.
 abbrev below : ℕ → List ℕ → Bool
@@ -55,6 +56,7 @@ demand-1 f r work reports byte =
       taken-exactly = event-taken f r work reports byte;
       answered = answer-below 17 j r after (given-below 17 (lines f r work (length reports) (meaningOf byte)) tt);
       place = place-is f r work reports byte;
+      named = event-named f r work reports byte;
       kept = λ h.
           let k = refused-keeps f r work reports byte h in
           (k .0, none-counted j r after h, k .1, k .2);
@@ -67,5 +69,6 @@ start-demand-1 f rows depth work =
       numbered = outcome-at-rank (startAnswer f rows depth work .outcome);
       taken-exactly = start-taken f rows depth work;
       answered = answer-below 7 (startJudged f rows depth work) noRecord (startAfter f rows depth) (given-below 7 (startLines f rows depth (length work)) tt);
+      named = start-named f rows depth work;
       kept = start-refused-keeps f rows depth work;
     }

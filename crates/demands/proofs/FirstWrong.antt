@@ -1,14 +1,15 @@
 -- Refusal 7 carries the place of the first word out of order. Assumes nothing.
 use mathlib.Core.Bool.{Bool, true, false, cond, true≢false}
 use mathlib.Core.List.{List}
-use mathlib.Core.Logic.{inl, inr}
+use mathlib.Core.Logic.{inl, inr, ⊎-elim}
 use mathlib.Core.Path.{_≡_, refl, sym, ap, _∙_}
-use Prim.Native.Nat.{ℕ, zero, suc, _+_, _<_, _≤_}
-use native.Mathlib.Decide.{ℕ-discrete}
+use Prim.Native.Nat.{ℕ}
 use native.Mathlib.Omega.{arith}
 use lib.ListN.{length}
+use Rattle.meaning.specs.Search.{First}
 use Rattle.meaning.specs.Table.{tableOf}
 use Rattle.meaning.proofs.Refusals.{first-gives}
+use Rattle.meaning.proofs.Search.{decided}
 use Rattle.order.specs.declared.Shape.{Shape}
 use Rattle.order.specs.declared.Place.{Place}
 use Rattle.order.specs.declared.Place.the-variants.{At}
@@ -25,30 +26,11 @@ use Rattle.engine.specs.Calls.{lines, answerOf, eventJudged, eventAfter, eventA
 use Rattle.engine.proofs.Numbers.{event-exactly}
 use Rattle.demands.specs.Demands.{FirstWrong, FaultAt}
 
--- The first of n places from i on, where a test fails.
-record First (right : ℕ → Bool) (i n j : ℕ) : Type 0 where
-  from : i ≤ j
-  to : j < i + n
-  fails : right j ≡ false
-  passed : (k : ℕ) → i ≤ k → k < j → right k ≡ true
-
 found-first : (right : ℕ → Bool) (n i j : ℕ) → firstFrom right i n ≡ At j → First right i n j
-unfolding firstFrom
-found-first right zero i j e = let z : _≡_ {A = ℕ} 0 1 = cc in absurd (omega (arith, z))
-found-first right (suc n) i j e = go (right i) refl e (found-first right n (i + 1) j)
-  where
-    go : (b : Bool) → right i ≡ b → cond b (firstFrom right (i + 1) n) (At i) ≡ At j → (firstFrom right (i + 1) n ≡ At j → First right (i + 1) n j) → First right i (suc n) j
-    go true r q later =
-        let h = later q in
-        record {
-          from = omega (arith, h .from);
-          to = omega (arith, h .to);
-          fails = h .fails;
-          passed = λ k l m. elim (ℕ-discrete k i) [ yes x ↦ ap right x ∙ r | no x ↦ h .passed k (omega (arith, l, x)) m ];
-        }
-    go false r q later =
-        let x : i ≡ j = cc in
-        record { from = omega (arith, x); to = omega (arith, x); fails = ap right (sym x) ∙ r; passed = λ k l m. absurd (omega (arith, l, m, x)) }
+found-first right n i j e =
+    ⊎-elim (λ h. let no : found.Fine ≡ At j = sym (h .0) ∙ e in let z : _≡_ {A = ℕ} 0 1 = cc in absurd (omega (arith, z)))
+    (λ h. let same : At (h .place) ≡ At j = sym (h .is) ∙ e in let x : h .place ≡ j = cc in rw (sym x) (h .first))
+    (decided At found.Fine right n i)
 
 first-wrong : (s : Shape) (words : List ℕ) (i : ℕ) → firstFault s words ≡ At i → FirstWrong s words i
 unfolding firstFault

@@ -1,5 +1,6 @@
 pub mod Lines
 pub mod FirstWrong
+pub mod Named
 pub mod Demand1
 pub mod Taking
 pub mod Reading

@@ -18,6 +18,8 @@ use Rattle.places.specs.Places.{workLength}
 use Rattle.places.specs.Memory.{Held, workWords}
 use Rattle.reports.specs.Reports.{selectedWord, failedWord}
 use Rattle.meaning.specs.Lent.{onFront}
+use Rattle.table.specs.declared.Refusal as file
+use Rattle.table.specs.Named.{Named}
 use Rattle.order.specs.declared.Shape.{Shape}
 use Rattle.order.specs.Order.{wordRight}
 use Rattle.answers.specs.declared.Record.{Record}
@@ -64,6 +66,8 @@ pub record Demand1 (f : List ℕ) (r : Record) (work reports : List ℕ) (byte :
   -- Refusal 7 carries the place of the first word out of order; the length of memory where the record by itself is.
   pub place :
       (i : ℕ) → eventAnswer f r work reports byte .outcome ≡ Refused (why.Order i) → FaultAt r (tableOf f .states) (tableOf f .labels) work i
+  -- Refusals 3 and 5 carry the first wrong place in file order.
+  pub named : (w : file.Refusal) → eventAnswer f r work reports byte .outcome ≡ Refused (why.Table w) → Named f w
   -- Refused, it gives its record back and 0 as the number of reports, and leaves memory and reports as they were.
   pub kept :
       0 < outcomeNumber (eventAnswer f r work reports byte .outcome) →
@@ -81,6 +85,7 @@ pub record StartDemand1 (f : List ℕ) (rows depth : ℕ) (work : List ℕ) : Ty
   pub taken-exactly :
       (outcomeNumber (startAnswer f rows depth work .outcome) ≡ 0) ↔ ((i : ℕ) → appliesAt (startLines f rows depth (length work)) i ≡ false)
   pub answered : outcomeRank (startAnswer f rows depth work .outcome) < 7
+  pub named : (w : file.Refusal) → startAnswer f rows depth work .outcome ≡ Refused (why.Table w) → Named f w
   -- Refused, it gives a record of zeros and leaves memory as it was.
   pub kept :
       0 < outcomeNumber (startAnswer f rows depth work .outcome) →

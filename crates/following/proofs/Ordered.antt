@@ -2,8 +2,9 @@
 -- order. Assumes rows of one depth whose states are states of the table, as many as there is room for, as many labels, and
 -- for the order positions that rise and labels of the table.
 use mathlib.Core.Path.{_≡_, refl, sym, ap, _∙_, subst}
-use mathlib.Core.Bool.{Bool, true, false, cond, _&&_}
+use mathlib.Core.Bool.{Bool, true, false, cond, _&&_, true≢false}
 use mathlib.Core.List.{List, [], _∷_, _++_, append-assoc}
+use mathlib.Core.Logic.{⊎-elim}
 use Prim.Native.Nat.{ℕ, zero, suc, _+_, _-_, _*_, _/_, _%_, _<_, _≤_}
 use native.Mathlib.Omega.{arith}
 use native.Mathlib.Nat.{suc-mul, zero-mul, mul-le-mul-right, mod-lt, div-add-mod'}
@@ -13,6 +14,7 @@ use borrow.Author.Tests.{leb-true, leb-false, eqb-true, eqb-false, ltb-true, ltb
 use lib.Dec.{ltb, leb, eqb}
 use lib.ListN.{length, getD, drop, replicate, length-map, length-append, List·getD-append}
 use lib.Seq.{getD-take, getD-drop, getD-at, getD-append-add, take-at, drop-at}
+use Rattle.meaning.proofs.Search.{decided}
 use Rattle.meaning.proofs.Rows.{AllBelow}
 use Rattle.meaning.proofs.Rows as below
 use Rattle.places.specs.Places.{positionAt, stateAt, levelOf, partOf, rowLength, rowAt, rowsLength, labelAt, labelLevel, workLength, rowsPart, labelsPart, rowOf}
@@ -23,7 +25,7 @@ use Rattle.places.proofs.Good.{AllGood, helds-first, all-length, later-rows, he
 use Rattle.places.proofs.Good as good
 use Rattle.places.proofs.Labels.{open-words-length, labels-length, open-back}
 use Rattle.order.specs.declared.Shape.{Shape}
-use Rattle.order.specs.declared.Place.the-variants.{Fine}
+use Rattle.order.specs.declared.Place.the-variants.{Fine, At}
 use Rattle.order.specs.Order.{positionRight, cellRight, labelRight, labelsFrom, wordRight, firstFrom, firstFault}
 use Rattle.following.specs.Lists.{Rising}
 use Rattle.following.specs.Lists as lists
@@ -33,9 +35,8 @@ use Rattle.following.specs.Following.{positionsOf}
 
 -- Where every test passes, none is found that fails.
 all-fine : (right : ℕ → Bool) → ((i : ℕ) → right i ≡ true) → (n i : ℕ) → firstFrom right i n ≡ Fine
-unfolding firstFrom
-all-fine right h zero i = refl
-all-fine right h (suc n) i = rw (h i) (all-fine right h n (i + 1))
+all-fine right h n i =
+    ⊎-elim (λ g. g .0) (λ g. absurd (true≢false (sym (h (g .place)) ∙ g .first .fails))) (decided At Fine right n i)
 
 cond-true : (b : Bool) {x y : Bool} → (b ≡ true → x ≡ true) → (b ≡ false → y ≡ true) → cond b x y ≡ true
 cond-true true h g = h refl

@@ -7,7 +7,7 @@ use lib.Dec.{ltb}
 use lib.ListN.{length}
 use Rattle.meaning.specs.Refusals.{Line, firstOf}
 use Rattle.bodies.specs.Sound.{statesIn, labelsIn}
-use Rattle.table.specs.File.{isShort, headerRight, contentsRight, lengthRight, bodiesRight, readingOf}
+use Rattle.table.specs.File.{isShort, headerRight, contentsRight, lengthRight, bodiesRight, byContents, byBodies, readingOf}
 use Rattle.table.specs.declared.Reading.{Reading}
 use Rattle.table.specs.declared.Reading.the-variants as reading
 use Rattle.table.specs.declared.Refusal.{Refusal}
@@ -39,28 +39,28 @@ first-append (l ∷ xs) ys o = rw (first-append xs ys o)
 
 -- The table's lines say what reading the file says.
 table-first : (f : List ℕ) (o : Judged) → firstOf (tableLines f) o ≡ afterReading (readingOf f) o
-table-first f o = go (isShort f) (headerRight f) (contentsRight f) (lengthRight f) (bodiesRight f)
+table-first f o = go (isShort f) (headerRight f) (contentsRight f) (lengthRight f) (bodiesRight f) (byContents f) (byBodies f)
   where
     go :
-        (a b c d e : Bool) →
+        (a b c d e : Bool) (contents bodies : Refusal) →
         cond a (judged.Refused (why.Table file.Short))
         (cond (not b) (judged.Refused (why.Table file.Header))
-        (cond (not c) (judged.Refused (why.Table file.Contents))
+        (cond (not c) (judged.Refused (why.Table contents))
         (cond (not d) (judged.Refused (why.Table file.Length))
-        (cond (not e) (judged.Refused (why.Table file.Body)) o))))
+        (cond (not e) (judged.Refused (why.Table bodies)) o))))
         ≡ afterReading
         (cond a (reading.Refused file.Short)
         (cond (not b) (reading.Refused file.Header)
-        (cond (not c) (reading.Refused file.Contents)
+        (cond (not c) (reading.Refused contents)
         (cond (not d) (reading.Refused file.Length)
-        (cond (not e) (reading.Refused file.Body) (reading.Taken (statesIn f) (labelsIn f)))))))
+        (cond (not e) (reading.Refused bodies) (reading.Taken (statesIn f) (labelsIn f)))))))
         o
-    go true b c d e = refl
-    go false false c d e = refl
-    go false true false d e = refl
-    go false true true false e = refl
-    go false true true true false = refl
-    go false true true true true = refl
+    go true b c d e contents bodies = refl
+    go false false c d e contents bodies = refl
+    go false true false d e contents bodies = refl
+    go false true true false e contents bodies = refl
+    go false true true true false contents bodies = refl
+    go false true true true true contents bodies = refl
 
 -- The call's lines before others.
 call-first :

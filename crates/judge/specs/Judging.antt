@@ -7,7 +7,7 @@ use lib.Dec.{eqb, leb, ltb}
 use lib.ListN.{length, getD}
 use Rattle.meaning.specs.Refusals.{Line}
 use Rattle.bodies.specs.Sound.{statesIn, labelsIn}
-use Rattle.table.specs.File.{between, isShort, headerRight, contentsRight, lengthRight, bodiesRight}
+use Rattle.table.specs.File.{between, isShort, headerRight, contentsRight, lengthRight, bodiesRight, byContents, byBodies}
 use Rattle.table.specs.declared.Refusal.the-variants as file
 use Rattle.places.specs.Places.{workLength, labelsPart, labelAt}
 use Rattle.order.specs.declared.Shape.{Shape}
@@ -41,9 +41,9 @@ abbrev pub tableLines : List ℕ → List (Line Judged)
 tableLines f =
     refuses (isShort f) (why.Table file.Short)
     ∷ refuses (not (headerRight f)) (why.Table file.Header)
-    ∷ refuses (not (contentsRight f)) (why.Table file.Contents)
+    ∷ refuses (not (contentsRight f)) (why.Table (byContents f))
     ∷ refuses (not (lengthRight f)) (why.Table file.Length)
-    ∷ refuses (not (bodiesRight f)) (why.Table file.Body)
+    ∷ refuses (not (bodiesRight f)) (why.Table (byBodies f))
     ∷ []
 
 -- 6, put the other way: rows and depth allowed in range, and work memory of the length that they fix.

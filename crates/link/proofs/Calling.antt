@@ -1,39 +1,19 @@
--- What a call over slices that fit, or do not, returns and leaves; and a refusal that carries no place. Assumes nothing.
+-- What a call over slices that fit, or do not, returns and leaves. Assumes nothing.
 use mathlib.Core.Bool.{Bool, true, false, not}
-use mathlib.Core.List.{List, [], _∷_}
-use mathlib.Core.Path.{_≡_, refl, sym, ap, _∙_}
+use mathlib.Core.List.{List}
+use mathlib.Core.Path.{_≡_, sym, ap, _∙_}
 use Prim.Native.Nat.{ℕ}
 use lib.Dec.{eqb}
 use lib.ListN.{length}
-use types.Run.{OneOf, miss}
-use denote.Enum.Declared.{tagOf}
 use borrow.Author.Tests.{eqb-true, not-true, not-false}
 use Rattle.meaning.proofs.Tests.{both-true}
-use Rattle.answers.proofs.Refusal.{the-type}
 use Rattle.answers.specs.declared.Record.{Record}
 use Rattle.answers.specs.declared.Answer.{Answer}
-use Rattle.answers.specs.declared.Refusal.{Refusal}
-use Rattle.answers.specs.declared.Refusal.the-variants as why
 use Rattle.answers.specs.Answers.{outcomeNumber}
 use Rattle.engine.specs.Calls.{startAnswer, startWork, eventAnswer, eventWork, eventReports}
-use Rattle.link.specs.Words.{recordWords, recordIn, placeOf, answerWords}
+use Rattle.link.specs.Words.{recordWords, recordIn, answerWords}
 use Rattle.link.specs.Linked.{fitting, startNumber, startLeavesWork, startLeavesRecord, startLeavesAnswer}
 use Rattle.link.specs.Linked.{nextWords, eventNumber, eventLeavesRecord, eventLeavesWork, eventLeavesReports, eventLeavesAnswer}
-
--- Every refusal but 7 carries no place.
-pub no-place : (x : Refusal) → OneOf (0 ∷ 1 ∷ 3 ∷ 4 ∷ 5 ∷ 6 ∷ 7 ∷ 8 ∷ 9 ∷ 10 ∷ 11 ∷ []) (tagOf the-type x) → 0 ≡ placeOf x
-no-place (why.Table reason) other = refl
-no-place why.Sizes other = refl
-no-place (why.Order place) other = absurd (miss (0 ∷ 1 ∷ 3 ∷ 4 ∷ 5 ∷ 6 ∷ 7 ∷ 8 ∷ 9 ∷ 10 ∷ 11 ∷ []) 2 tt other)
-no-place why.Finished other = refl
-no-place why.Unknown other = refl
-no-place why.Label other = refl
-no-place why.NothingOpen other = refl
-no-place why.ClosingLabel other = refl
-no-place why.TooDeep other = refl
-no-place why.LevelOpen other = refl
-no-place why.Positions other = refl
-no-place why.Rows other = refl
 
 -- What the test `!fits(..)` told.
 module _ (words answer : List ℕ) (b : Bool) (told : b ≡ fitting words answer) where

@@ -7,8 +7,8 @@ use lib.ListN.{getD}
 use Rattle.answers.specs.declared.Record.{Record}
 use Rattle.answers.specs.declared.Outcome.{Outcome}
 use Rattle.answers.specs.declared.Outcome.the-variants.{Taken, Refused}
-use Rattle.answers.specs.declared.Refusal.{Refusal}
-use Rattle.answers.specs.declared.Refusal.the-variants as why
+use Rattle.answers.specs.declared.Place.{Place}
+use Rattle.answers.specs.Answers.{nowhere, placeOf}
 
 -- A record as six words: rows, depth allowed, depth now, alive, positions read, and 1 where finished, else 0.
 abbrev pub recordWords : Record → List ℕ
@@ -27,25 +27,10 @@ recordIn words =
       finished = eqb (getD words 5 0) 1;
     }
 
--- The place that a refusal carries: 7 has one, the others 0.
-abbrev pub placeOf : Refusal → ℕ
-placeOf (why.Table reason) = 0
-placeOf why.Sizes = 0
-placeOf (why.Order place) = place
-placeOf why.Finished = 0
-placeOf why.Unknown = 0
-placeOf why.Label = 0
-placeOf why.NothingOpen = 0
-placeOf why.ClosingLabel = 0
-placeOf why.TooDeep = 0
-placeOf why.LevelOpen = 0
-placeOf why.Positions = 0
-placeOf why.Rows = 0
-
--- An answer of four words: the number of reports, the place, and two words that no call uses yet.
-abbrev pub fourWords : ℕ → ℕ → List ℕ
-fourWords reports place = reports ∷ place ∷ 0 ∷ 0 ∷ []
+-- An answer of four words: the number of reports, and the three of a place.
+abbrev pub fourWords : ℕ → Place → List ℕ
+fourWords reports place = reports ∷ place .word ∷ place .part ∷ place .inside ∷ []
 
 abbrev pub answerWords : Outcome → List ℕ
-answerWords (Taken reports) = fourWords reports 0
+answerWords (Taken reports) = fourWords reports nowhere
 answerWords (Refused reason) = fourWords 0 (placeOf reason)

@@ -5,12 +5,12 @@
 // length says and is not null, and the lent memories do not overlap.
 ghost use mathlib.Core.Path.{_≡_};
 ghost use lib.ListN.{length};
-ghost use Rattle.link.specs.Words.{recordWords, recordIn, placeOf, fourWords, answerWords};
+ghost use Rattle.link.specs.Words.{recordWords, recordIn, fourWords, answerWords};
 ghost use Rattle.link.specs.Linked.{fitting, startNumber, startLeavesWork, startLeavesRecord, startLeavesAnswer};
 ghost use Rattle.link.specs.Linked.{nextWords, eventNumber, eventLeavesRecord, eventLeavesWork, eventLeavesReports, eventLeavesAnswer};
 use answers::Outcome;
+use answers::Place;
 use answers::Record;
-use answers::Refusal;
 
 // Has the record six words and the answer four?
 fn fits(words: &[u64], answer: &[u64]) -> bool
@@ -59,24 +59,15 @@ fn put_next(words: &mut [u64], outcome: Outcome, next: Record)
     }
 }
 
-// The place of refusal 7.
-fn place_of(why: Refusal) -> u64
-    ensures { λ r. ⌜ r ≡ placeOf why ⌝ }
-{
-    match why {
-        Refusal::Order(place) => place,
-        _ => 0,
-    }
-}
-
-fn put_four(words: &mut [u64], reports: u64, place: u64)
+// The number of reports, and the three words of a place.
+fn put_four(words: &mut [u64], reports: u64, place: Place)
     requires { ⌜ length (now words) ≡ 4 ⌝ }
     ensures { λ _. ⌜ now (words .exit) ≡ fourWords reports place ⌝ }
 {
     words[0] = reports;
-    words[1] = place;
-    words[2] = 0;
-    words[3] = 0;
+    words[1] = place.word;
+    words[2] = place.part;
+    words[3] = place.inside;
 }
 
 fn put_answer(words: &mut [u64], outcome: Outcome)
@@ -84,8 +75,8 @@ fn put_answer(words: &mut [u64], outcome: Outcome)
     ensures { λ _. ⌜ now (words .exit) ≡ answerWords outcome ⌝ }
 {
     match outcome {
-        Outcome::Taken(reports) => put_four(words, reports, 0),
-        Outcome::Refused(why) => put_four(words, 0, place_of(why)),
+        Outcome::Taken(reports) => put_four(words, reports, Place::none()),
+        Outcome::Refused(why) => put_four(words, 0, why.place()),
     }
 }
 

@@ -11,5 +11,6 @@ pub mod Rows
 pub mod Earliest
 pub mod Hedges
 pub mod Refusals
+pub mod Search
 pub mod Contracts
 pub mod Lent

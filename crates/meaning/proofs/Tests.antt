@@ -38,10 +38,6 @@ and-right false b h = absurd h
 pub both-true : (a b : Bool) → a && b ≡ true → (a ≡ true) × (b ≡ true)
 both-true a b e = (T-true a (and-left a b (true-T e)), T-true b (and-right a b (true-T e)))
 
--- Where the first two pass, the last decides.
-pub and-last : {a b c r : Bool} → a ≡ true → b ≡ true → r ≡ c → r ≡ a && (b && c)
-and-last e f h = rw (e, f) h
-
 -- "not a or b" is "a gives b".
 pub implies-give : (a b : Bool) → (T a → T b) → T (not a || b)
 implies-give true b h = h tt

@@ -5,4 +5,5 @@ pub mod Sets
 pub mod Masks
 pub mod Rows
 pub mod Refusals
+pub mod Search
 pub mod Lent

@@ -1,14 +1,16 @@
--- Laws of the search for the first word at fault. Assumes nothing.
+-- Laws of the search for the first word at fault, beside those of every search (meaning/proofs/Search). Assumes nothing.
 use mathlib.Core.Path.{_≡_, refl, sym, _∙_}
 use mathlib.Core.Bool.{Bool, true, false, cond}
+use mathlib.Core.Logic.{⊎-elim}
 use mathlib.Core.List.{List}
 use Prim.Native.Nat.{ℕ, zero, suc, _+_, _-_, _*_, _<_, _≤_}
 use native.Mathlib.Omega.{arith}
-use native.Mathlib.Nat.{suc-add, add-zero, zero-add, sub-zero}
-use native.Mathlib.Decide.{ℕ-discrete}
+use native.Mathlib.Nat.{suc-add, add-zero, zero-add}
 use lib.Arith.{digits-div, digits-mod}
 use lib.ListN.{getD}
 use borrow.Author.Tests.{lt-ltb, le-ltb}
+use Rattle.meaning.specs.Search.{searched}
+use Rattle.meaning.proofs.Search.{decided, Rest}
 use Rattle.places.specs.Places.{rowLength, labelLevel}
 use Rattle.places.proofs.Rows.{row-fits}
 use Rattle.order.specs.declared.Shape.{Shape}
@@ -40,22 +42,10 @@ cond-or : (b : Bool) (p q : Place) (j : ℕ) → cond b (orElse p q) (At j) ≡ 
 cond-or true p q j = refl
 cond-or false p q j = refl
 
-cond-fine : (b : Bool) (p : Place) (i : ℕ) → cond b p (At i) ≡ Fine → (b ≡ true) × (p ≡ Fine)
-cond-fine true p i e = (refl, e)
-cond-fine false p i e = let z : _≡_ {A = ℕ} 0 1 = cc in absurd (omega arith)
-
 module _ (right : ℕ → Bool) where
-  pub right-next : (i n : ℕ) → right i ≡ true → firstFrom right i (suc n) ≡ firstFrom right (i + 1) n
-  unfolding firstFrom
-  right-next i n e = rw e
-
-  pub wrong-here : (i n : ℕ) → right i ≡ false → firstFrom right i (suc n) ≡ At i
-  unfolding firstFrom
-  wrong-here i n e = rw e
-
   -- A search over n + m places: the first n decide, or else the rest does.
   split : (n m i : ℕ) → firstFrom right i (n + m) ≡ orElse (firstFrom right i n) (firstFrom right (i + n) m)
-  unfolding firstFrom
+  unfolding searched
   split zero m i = rw (zero-add m, add-zero i)
   split (suc n) m i =
       let e : i + 1 + n ≡ i + suc n = omega arith in
@@ -63,41 +53,19 @@ module _ (right : ℕ → Bool) where
 
   -- Where nothing is found, all is right.
   pub fine-all : (n i : ℕ) → firstFrom right i n ≡ Fine → (j : ℕ) → i ≤ j → j < i + n → right j ≡ true
-  unfolding firstFrom
-  fine-all zero i e j l h = absurd (omega arith)
-  fine-all (suc n) i e j l h =
-      let p = cond-fine (right i) (firstFrom right (i + 1) n) i e in
-      elim (ℕ-discrete j i) [ yes q ↦ rw q (p .0) | no q ↦ fine-all n (i + 1) (p .1) j (omega arith) (omega arith) ]
+  fine-all n i e =
+      ⊎-elim (λ h. h .1) (λ h. let no : At (h .place) ≡ Fine = sym (h .is) ∙ e in let z : _≡_ {A = ℕ} 0 1 = cc in absurd (omega (arith, z)))
+      (decided At Fine right n i)
 
-  -- A search over n places, of which the first i passed: what is left of it is the whole search.
+  -- A search over n places, of which the first i passed, and then m that are searched together.
   module _ (n : ℕ) where
-    abbrev pub Rest : ℕ → Type 0
-    Rest i = firstFrom right i (n - i) ≡ firstFrom right 0 n
-
-    pub rest-start : Rest 0
-    rest-start = rw (sub-zero n)
-
-    pub rest-end : (i : ℕ) → Rest i → n ≤ i → Fine ≡ firstFrom right 0 n
-    unfolding firstFrom
-    rest-end i h e = let z : n - i ≡ 0 = omega arith in rw z at h
-
-    pub rest-right : (i j : ℕ) → Rest i → i < n → right i ≡ true → j ≡ i + 1 → Rest j
-    rest-right i j h l e q =
-        let z : n - i ≡ suc (n - (i + 1)) = omega arith in
-        rw q (sym (right-next i _ e) ∙ (rw z at h))
-
-    pub rest-wrong : (i : ℕ) → Rest i → i < n → right i ≡ false → At i ≡ firstFrom right 0 n
-    rest-wrong i h l e =
-        let z : n - i ≡ suc (n - (i + 1)) = omega arith in
-        sym (wrong-here i _ e) ∙ (rw z at h)
-
-    parted : (m i : ℕ) → Rest i → i + m ≤ n → orElse (firstFrom right i m) (firstFrom right (i + m) (n - (i + m))) ≡ firstFrom right 0 n
+    parted : (m i : ℕ) → Rest At Fine right n i → i + m ≤ n → orElse (firstFrom right i m) (firstFrom right (i + m) (n - (i + m))) ≡ firstFrom right 0 n
     parted m i h l =
         let z : n - i ≡ m + (n - (i + m)) = omega arith in
         sym (split m (n - (i + m)) i) ∙ (rw z at h)
 
-    pub rest-fine : (m i j : ℕ) → Rest i → i + m ≤ n → firstFrom right i m ≡ Fine → j ≡ i + m → Rest j
+    pub rest-fine : (m i j : ℕ) → Rest At Fine right n i → i + m ≤ n → firstFrom right i m ≡ Fine → j ≡ i + m → Rest At Fine right n j
     rest-fine m i j h l e q = rw q (rw e at (parted m i h l))
 
-    pub rest-fault : (m i k : ℕ) → Rest i → i + m ≤ n → firstFrom right i m ≡ At k → At k ≡ firstFrom right 0 n
+    pub rest-fault : (m i k : ℕ) → Rest At Fine right n i → i + m ≤ n → firstFrom right i m ≡ At k → At k ≡ firstFrom right 0 n
     rest-fault m i k h l e = rw e at (parted m i h l)

@@ -4,6 +4,7 @@ use mathlib.Core.List.{List}
 use Prim.Native.Nat.{ℕ, zero, suc, _+_, _-_, _/_, _%_}
 use lib.Dec.{ltb, leb, eqb}
 use lib.ListN.{length, getD}
+use Rattle.meaning.specs.Search.{searched}
 use Rattle.places.specs.Places.{positionAt, levelOf, partOf, rowLength, rowAt, labelLevel}
 use Rattle.order.specs.declared.Shape.{Shape}
 use Rattle.order.specs.declared.Place.{Place}
@@ -39,9 +40,8 @@ wordRight s words i =
     (labelRight s (labelLevel (i - labelsFrom s)) (getD words i 0))
 
 -- The first place from i on, among n, at which a test fails.
-unfoldable pub firstFrom : (ℕ → Bool) → ℕ → ℕ → Place
-firstFrom right i zero = Fine
-firstFrom right i (suc n) = cond (right i) (firstFrom right (i + 1) n) (At i)
+abbrev pub firstFrom : (ℕ → Bool) → ℕ → ℕ → Place
+firstFrom right i n = searched At Fine right i n
 
 -- The first word out of order, in any row and level or of any label.
 unfoldable pub firstFault : Shape → List ℕ → Place

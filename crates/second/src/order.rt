@@ -2,10 +2,12 @@
 //
 // A word of memory is judged by its place alone: it is one of the last, which are the levels', or its row and column follow
 // by division.
+use crate::file::Found;
 use crate::file::file_refusal;
 use crate::file::is_product;
 use crate::file::labels;
 use crate::file::line;
+use crate::file::numbered;
 use crate::file::states;
 use crate::levels::is_close;
 use crate::levels::is_named_close;
@@ -24,20 +26,7 @@ pub struct Claim {
     pub finished: bool,
 }
 
-// The number of a refusal, 0 for none, and the place that 7 has.
-pub struct Found {
-    pub number: u64,
-    pub place: usize,
-}
-
 pub const LAST_POSITION: u64 = 2147483647;
-
-fn numbered(number: u64) -> Found {
-    Found {
-        number: number,
-        place: 0,
-    }
-}
 
 // Words in a row; 0 where the depth is not allowed.
 fn row_words(allowed: u64) -> usize {
@@ -164,38 +153,34 @@ impl Claim {
 }
 
 // 1 to 6 of a start.
-pub fn start_refusal(file: &[u8], rows: u64, allowed: u64, work: usize) -> u64 {
-    let number = file_refusal(file);
-    line(
-        number != 0,
-        number,
-        line(is_misfit(rows, allowed, work), 6, 0),
-    )
+pub fn start_refusal(file: &[u8], rows: u64, allowed: u64, work: usize) -> Found {
+    let found = file_refusal(file);
+    found.or_number(line(is_misfit(rows, allowed, work), 6, 0))
 }
 
 // 1 to 6 of an event.
-fn size_refusal(file: &[u8], claim: Claim, work: usize, reports: usize) -> u64 {
-    let number = start_refusal(file, claim.rows, claim.allowed, work);
-    line(
-        number != 0,
-        number,
-        line((reports as u64) <= claim.rows, 6, 0),
-    )
+fn size_refusal(file: &[u8], claim: Claim, work: usize, reports: usize) -> Found {
+    let found = start_refusal(file, claim.rows, claim.allowed, work);
+    found.or_number(line((reports as u64) <= claim.rows, 6, 0))
+}
+
+// 7, at a place.
+fn out_of_order(place: usize) -> Found {
+    let mut found = numbered(7);
+    found.place = place;
+    found
 }
 
 // 1 to 14 and 16 of an event.
 pub fn call_refusal(file: &[u8], claim: Claim, work: &[u64], reports: usize, byte: usize) -> Found {
     let sizes = size_refusal(file, claim, work.len(), reports);
-    if sizes != 0 {
-        return numbered(sizes);
+    if sizes.number != 0 {
+        return sizes;
     }
     let k = labels(file);
     let fault = claim.fault(states(file), k, work);
     if claim.is_broken() | (fault < work.len()) {
-        return Found {
-            number: 7,
-            place: fault,
-        };
+        return out_of_order(fault);
     }
     numbered(claim.byte_refusal(k, claim.newest_level(work), byte))
 }

@@ -5,7 +5,7 @@ use Prim.Native.Nat.{ℕ, _<_, _≤_}
 use native.Mathlib.Omega.{arith}
 use Rattle.offsets.proofs.Bounds.{each-body}
 use Rattle.meaning.specs.Table.{bodyAt, bodyLength}
-use Rattle.table.specs.File.{Sizes, bodyLimit, bytesBelow, bodyRight}
+use Rattle.table.specs.File.{Sizes, bodyLimit, firstAbove, wrongByte}
 
 -- The bodies of kinds 1 to 4 name states, and the final body holds 0 and 1.
 pub limit-state : (n i : ℕ) → i < 5 → i < 4 → n ≡ bodyLimit n i
@@ -15,8 +15,8 @@ limit-state n =
 pub limit-final : (n i : ℕ) → i < 5 → 4 ≤ i → 2 ≡ bodyLimit n i
 limit-final n i l g = let e : i ≡ 4 = omega arith in rw e
 
--- A body is tested from its place on, for its length, against its limit.
-pub body-tested : (f : List ℕ) (n k i from count limit : ℕ) → Sizes f n k
+-- A body is searched from its place on, for its length, against its limit.
+pub body-searched : (f : List ℕ) (n k i from count limit : ℕ) → Sizes f n k
     → from ≡ bodyAt n k i → count ≡ bodyLength n k i → limit ≡ bodyLimit n i
-    → bytesBelow f from count limit ≡ bodyRight f i
-body-tested f n k i from count limit s a b c = rw (a, b, c, s .states-are, s .labels-are)
+    → firstAbove f from count limit ≡ wrongByte f i
+body-searched f n k i from count limit s a b c = rw (a, b, c, s .states-are, s .labels-are)

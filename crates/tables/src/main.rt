@@ -1,7 +1,8 @@
 // Tries the reader of table files at the edges of each line of refusals, and shows the sets of a table.
 //
 // A line a try: which table (n = 1 and k = 1, or n = 64 and k = 32, all its states 0), how many of its bytes are read,
-// which byte is set to what, and the answer: "taken n k", or "refused" with 01's number. Then the same answer for the
+// which byte is set to what, and the answer: "taken n k", or "refused" with 01's number and, for 3 and 5, the place in two
+// numbers: the entry and its field (0 kind, 1 offset, 2 length), or the body and its byte. Then the same answer for the
 // table on standard input and, where it has three states or more, some of its sets: with 01's table W these are the
 // document's cases 1 to 6.
 ghost use Prim.Native.Nat.{_<_, _≤_};
@@ -10,9 +11,10 @@ ghost use Rattle.meaning.specs.Table.{tableOf};
 use libc::STDIN_FILENO;
 use libc::STDOUT_FILENO;
 use table::Reading;
+use table::Refusal;
 
 // A try a line: n of the table, the bytes that are read, the byte that is set, and its value. (Byte 2 is 0 already.)
-const TRIES: [[u64; 4]; 39] = [
+const TRIES: [[u64; 4]; 41] = [
     // The file's length.
     [1, 0, 2, 0],
     [1, 28, 2, 0],
@@ -43,6 +45,9 @@ const TRIES: [[u64; 4]; 39] = [
     [64, 6333, 23, 15],
     [64, 6333, 24, 4],
     [64, 6333, 28, 1],
+    // Contents for another n, or another k: the first place that is then wrong.
+    [64, 6333, 0, 63],
+    [64, 6333, 1, 31],
     // The first and the last byte of each body.
     [64, 6333, 29, 64],
     [64, 6333, 60, 64],
@@ -103,10 +108,18 @@ fn say_taken(n: u64, k: u64) {
     say_number(b" ", k);
 }
 
+fn say_refused(why: Refusal) {
+    say_number(b"refused ", why.number());
+    if why.part() > 0 {
+        say_number(b" place ", why.part());
+        say_number(b" ", why.inside());
+    }
+}
+
 fn answer(file: &[u8]) {
     match table::read(file) {
         Reading::Taken(n, k) => say_taken(n, k),
-        Reading::Refused(why) => say_number(b"refused ", why.number()),
+        Reading::Refused(why) => say_refused(why),
     }
 }
 
@@ -136,7 +149,7 @@ fn try_table(n: u64, bytes: u64, at: u64, x: u64) {
 fn try_all() {
     let tries = TRIES;
     let mut i = 0;
-    while i < 39 {
+    while i < 41 {
         let row = tries[i];
         try_table(row[0], row[1], row[2], row[3]);
         i += 1;

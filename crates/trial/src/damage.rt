@@ -1,22 +1,25 @@
 // The same call with a damage beside it: in the file, the record, the memory or a length.
 //
-// The second evaluator says by which of 1 to 14 and 16 the call has to be refused, and with which place. Where it says none,
-// memory that no run left may be stepped as it stands: then the watch takes the call, or refuses it by 15, and of a call that
-// is taken the words of the levels are compared, and nothing else.
+// The second evaluator says by which of 1 to 14 and 16 the call has to be refused, and at which place: 3 and 5 in the file, 7 in
+// memory. Where it says none, memory that no run left may be stepped as it stands: then the watch takes the call, or refuses
+// it by 15, and of a call that is taken the words of the levels are compared, and nothing else.
 use crate::memory;
 use crate::tally;
 use engine::Outcome;
 use engine::Record;
-use engine::Refusal;
 use making::between;
 use making::draw;
+use making::is_one_in;
 use second::Claim;
+use second::Found;
 
-// What is damaged: bits of a byte of the file, bits of a word of memory, how much is cut off the file, the memory and the
-// reports, and the record.
+// What is damaged: bits of one or two bytes of the file, bits of a word of memory, how much is cut off the file, the memory and
+// the reports, and the record.
 struct Harm {
     file_at: usize,
     file_bits: u8,
+    other_at: usize,
+    other_bits: u8,
     file_cut: usize,
     word_at: usize,
     word_bits: u64,
@@ -25,11 +28,24 @@ struct Harm {
     record: Record,
 }
 
+// Some bits of a byte, at least one.
+fn draw_bits(desk: &mut [u64]) -> u8 {
+    (draw(desk, 255) % 255 + 1) as u8
+}
+
+// Where an offset or a length stands in the contents.
+fn draw_pair(desk: &mut [u64]) -> usize {
+    let entry = 5 * (draw(desk, 5) % 5 + 1);
+    slices::plus(entry, 2 * (draw(desk, 2) % 2))
+}
+
 impl Harm {
     fn none(record: Record) -> Harm {
         Harm {
             file_at: 0,
             file_bits: 0,
+            other_at: 0,
+            other_bits: 0,
             file_cut: 0,
             word_at: 0,
             word_bits: 0,
@@ -42,8 +58,46 @@ impl Harm {
     // A byte of the file, of a part of it.
     fn of_file(mut self, desk: &mut [u64], from: usize, to: usize) -> Harm {
         self.file_at = between(desk, from, to);
-        self.file_bits = (draw(desk, 255) % 255 + 1) as u8;
+        self.file_bits = draw_bits(desk);
         self
+    }
+
+    // One more byte of the file.
+    fn and_file(mut self, desk: &mut [u64], from: usize, to: usize) -> Harm {
+        self.other_at = between(desk, from, to);
+        self.other_bits = draw_bits(desk);
+        self
+    }
+
+    // An offset or a length in the contents: its high byte, or both bytes by the same bits.
+    fn of_pair(mut self, desk: &mut [u64]) -> Harm {
+        let low = draw_pair(desk);
+        self.file_at = slices::plus(low, 1);
+        self.file_bits = draw_bits(desk);
+        if is_one_in(desk, 2) {
+            self.other_at = low;
+            self.other_bits = self.file_bits;
+        }
+        self
+    }
+
+    // The contents, in one or two bytes, or in one with a byte of the bodies.
+    fn of_contents(self, desk: &mut [u64], file: usize) -> Harm {
+        match draw(desk, 4) {
+            0 => self.of_file(desk, 4, 28),
+            1 => self.of_pair(desk),
+            2 => self.of_file(desk, 4, 28).and_file(desk, 29, file),
+            _ => self.of_file(desk, 4, 28).and_file(desk, 4, 28),
+        }
+    }
+
+    // The bodies, in one or two bytes.
+    fn of_bodies(self, desk: &mut [u64], file: usize) -> Harm {
+        if is_one_in(desk, 2) {
+            self.of_file(desk, 29, file)
+        } else {
+            self.of_file(desk, 29, file).and_file(desk, 29, file)
+        }
     }
 
     fn of_length(mut self, desk: &mut [u64], file: usize, reports: usize) -> Harm {
@@ -94,8 +148,8 @@ fn draw_harm(desk: &mut [u64], file: usize, work: usize, reports: usize, record:
     let none = Harm::none(record);
     match draw(desk, 10) {
         0 => none.of_file(desk, 0, 3),
-        1 => none.of_file(desk, 4, 28),
-        2 => none.of_file(desk, 29, file),
+        1 => none.of_contents(desk, file),
+        2 => none.of_bodies(desk, file),
         3 => none.of_length(desk, file, reports),
         4 => Harm::none(harm_record(desk, record)),
         5 => none,
@@ -124,15 +178,10 @@ pub fn is_record(r: Record, claim: Claim) -> bool {
         & (r.finished == claim.finished)
 }
 
-// The place of a refusal 7, and 0 of every other outcome.
-fn place_of(outcome: Outcome) -> u64 {
-    match outcome {
-        Outcome::Taken(_) => 0,
-        Outcome::Refused(why) => match why {
-            Refusal::Order(place) => place,
-            _ => 0,
-        },
-    }
+// The outcome names the place that the second evaluator says, where there is one.
+fn is_placed(outcome: Outcome, must: Found) -> bool {
+    let place = outcome.place();
+    (place.word == must.place as u64) & (place.part == must.part) & (place.inside == must.inside)
 }
 
 // An event call that was refused kept its record, and wrote no reports.
@@ -165,7 +214,7 @@ fn call(
     let taken = number == 0;
     let stepped = !taken | memory::has_levels(work, record.allowed, &next);
     let named = (number == must.number) | (number == 15) & (must.number == 0);
-    let placed = place_of(outcome) == must.place as u64;
+    let placed = is_placed(outcome, must);
     let kept = taken | is_kept(record, answer.next, reports);
     tally::note(
         desk,
@@ -214,6 +263,7 @@ fn flip_word(s: &mut [u64], at: usize, bits: u64) {
 // The damage to the file and the memory; done twice, it is undone.
 fn flip_both(file: &mut [u8], work: &mut [u64], harm: Harm) {
     flip(file, harm.file_at, harm.file_bits);
+    flip(file, harm.other_at, harm.other_bits);
     flip_word(work, harm.word_at, harm.word_bits);
 }
 
@@ -270,11 +320,12 @@ pub fn start(file: &[u8], rows: u64, depth: u64, work: &mut [u64], desk: &mut [u
     };
     let is_first = is_record(answer.next, begun.claim);
     let is_clear = (number != 0) | memory::has_levels(work, depth, &[0; 40]);
+    let named = (number == must.number) & is_placed(outcome, must);
     tally::note(
         desk,
         tally::STARTS,
         number,
-        (number == must) & kept & is_first & is_clear,
+        named & kept & is_first & is_clear,
     );
     answer.next
 }
@@ -300,10 +351,18 @@ fn draw_sizes(desk: &mut [u64]) -> Record {
 }
 
 // A start with rows and a depth that are drawn, and with a damage.
-pub fn try_start(file: &mut [u8], work: &mut [u64], desk: &mut [u64]) {
+fn try_start(file: &mut [u8], work: &mut [u64], desk: &mut [u64]) {
     let sizes = draw_sizes(desk);
     let harm = draw_harm(desk, file.len(), work.len(), 1, sizes);
     flip_both(file, work, harm);
     start_cut(file, work, desk, harm);
     flip_both(file, work, harm);
+}
+
+pub fn try_starts(file: &mut [u8], work: &mut [u64], desk: &mut [u64]) {
+    let mut i = 0u64;
+    while i < 12 {
+        try_start(file, work, desk);
+        i += 1;
+    }
 }

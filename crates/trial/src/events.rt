@@ -339,7 +339,7 @@ fn draw_sizes(desk: &mut [u64]) -> Sizes {
     }
 }
 
-// A stream, and then a damaged start over what it left. What memory holds at first does not matter.
+// A stream, and then damaged starts over what it left. What memory holds at first does not matter.
 fn try_stream(file: &mut [u8], book: &mut [u8], reach: &[u64], desk: &mut [u64]) {
     let mut must = [0u32; 1024];
     let mut work = [12297829382473034410u64; 8100];
@@ -348,7 +348,7 @@ fn try_stream(file: &mut [u8], book: &mut [u8], reach: &[u64], desk: &mut [u64])
     let front = slices::front_words(&mut work, memory::work_words(sizes.rows, sizes.depth));
     let room = slices::front_reports(&mut reports, sizes.room);
     begin_stream(file, book, reach, &mut must, front, room, desk, sizes);
-    damage::try_start(file, &mut work, desk);
+    damage::try_starts(file, &mut work, desk);
 }
 
 fn try_streams(file: &mut [u8], book: &mut [u8], reach: &[u64], desk: &mut [u64], streams: usize) {

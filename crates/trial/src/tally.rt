@@ -1,5 +1,6 @@
 // What was compared, in words of the desk: at 0 to 16 the refusals of each number (0: taken), of starts, events and damaged
-// calls together; then tables, starts, events, reports, what differed, and damaged calls.
+// calls together; then tables, starts, events, reports, what differed, damaged calls, and of starts and of damaged calls how
+// many were refused 3 or 5, whose places in the file were compared.
 use libc::STDOUT_FILENO;
 use slices::put_word;
 use slices::word;
@@ -17,6 +18,10 @@ pub const DIFFERED: usize = 22;
 
 pub const DAMAGED: usize = 23;
 
+const START_PLACES: usize = 24;
+
+const DAMAGED_PLACES: usize = 25;
+
 pub fn add(desk: &mut [u64], at: usize, more: u64) {
     let before = word(desk, at);
     if before <= u64::MAX - more {
@@ -24,10 +29,25 @@ pub fn add(desk: &mut [u64], at: usize, more: u64) {
     }
 }
 
+// Where the places of a kind are counted.
+fn places_of(kind: usize) -> usize {
+    if kind == STARTS {
+        START_PLACES
+    } else {
+        DAMAGED_PLACES
+    }
+}
+
+fn note_number(desk: &mut [u64], kind: usize, number: u64) {
+    let has_place = (number == 3) | (number == 5);
+    add(desk, places_of(kind), has_place as u64);
+    add(desk, (number % 17) as usize, 1);
+}
+
 // One comparison more of a kind, and how it went.
 pub fn note(desk: &mut [u64], kind: usize, number: u64, alike: bool) {
     add(desk, kind, 1);
-    add(desk, (number % 17) as usize, 1);
+    note_number(desk, kind, number);
     add(desk, DIFFERED, !alike as u64);
 }
 
@@ -59,5 +79,7 @@ pub fn say_all(desk: &[u64]) {
     say(b"reports ", word(desk, REPORTS));
     say(b"taken ", word(desk, 0));
     say_refusals(desk);
+    say(b"places of starts ", word(desk, START_PLACES));
+    say(b"places of damaged calls ", word(desk, DAMAGED_PLACES));
     say(b"differed ", word(desk, DIFFERED));
 }

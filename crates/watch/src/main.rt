@@ -6,7 +6,9 @@
 // input's end.
 use engine::Outcome;
 use engine::Record;
+use engine::Refusal;
 use libc::STDIN_FILENO;
+use table::Field;
 
 // More than the lines of one event take: at most 65 of at most 41 bytes, and a last one.
 const EVENT_LINES: usize = 4096;
@@ -64,10 +66,50 @@ fn put_end(out: &mut [u8], at: usize, event: u64, next: Record) -> usize {
     }
 }
 
-// "refused N at E".
-fn put_refusal(out: &mut [u8], at: usize, number: u64, event: u64) -> usize {
+fn put_field(out: &mut [u8], at: usize, field: Field) -> usize {
+    match field {
+        Field::Kind => pipes::put(out, at, b" kind"),
+        Field::Offset => pipes::put(out, at, b" offset"),
+        Field::Length => pipes::put(out, at, b" length"),
+    }
+}
+
+// " entry I FIELD".
+fn put_entry(out: &mut [u8], at: usize, entry: u64, field: Field) -> usize {
+    let mut to = pipes::put(out, at, b" entry ");
+    to = pipes::put_number(out, to, entry);
+    put_field(out, to, field)
+}
+
+// " body I byte J".
+fn put_body(out: &mut [u8], at: usize, body: u64, byte: u64) -> usize {
+    let mut to = pipes::put(out, at, b" body ");
+    to = pipes::put_number(out, to, body);
+    to = pipes::put(out, to, b" byte ");
+    pipes::put_number(out, to, byte)
+}
+
+// Where the table is wrong, where its refusal says that.
+fn put_table_place(out: &mut [u8], at: usize, why: table::Refusal) -> usize {
+    match why {
+        table::Refusal::Contents(entry, field) => put_entry(out, at, entry, field),
+        table::Refusal::Body(body, byte) => put_body(out, at, body, byte),
+        _ => at,
+    }
+}
+
+fn put_place(out: &mut [u8], at: usize, why: Refusal) -> usize {
+    match why {
+        Refusal::Table(wrong) => put_table_place(out, at, wrong),
+        _ => at,
+    }
+}
+
+// "refused N at E", with the place in the table before "at" where there is one.
+fn put_refusal(out: &mut [u8], at: usize, why: Refusal, event: u64) -> usize {
     let mut to = pipes::put(out, at, b"refused ");
-    to = pipes::put_number(out, to, number);
+    to = pipes::put_number(out, to, why.number());
+    to = put_place(out, to, why);
     to = pipes::put(out, to, b" at ");
     to = pipes::put_number(out, to, event);
     pipes::put(out, to, b"\n")
@@ -118,7 +160,7 @@ fn follow_event(
         Outcome::Refused(why) => Following {
             record: next,
             events: was.events,
-            waiting: put_refusal(out, was.waiting, why.number(), event),
+            waiting: put_refusal(out, was.waiting, why, event),
             goes_on: false,
         },
         Outcome::Taken(count) => {
@@ -215,7 +257,7 @@ fn watch(table: &[u8]) {
     let outcome = answer.outcome;
     match outcome {
         Outcome::Refused(why) => {
-            let end = put_refusal(&mut out, waiting, why.number(), 0);
+            let end = put_refusal(&mut out, waiting, why, 0);
             pipes::write_front(&out, end);
         }
         Outcome::Taken(_) => follow(table, answer.next, &mut work, &mut out, waiting),

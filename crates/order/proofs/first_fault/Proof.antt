@@ -5,11 +5,12 @@ use Prim.Native.Nat.{ℕ, _≤_}
 use native.Mathlib.Omega.{arith}
 use borrow.Author.Needs.{needs}
 use lib.ListN.{length}
+use Rattle.meaning.proofs.Search.{rest-start}
 use Rattle.order.specs.declared.Shape.{Shape}
 use Rattle.order.specs.declared.Place.{Place}
-use Rattle.order.specs.declared.Place.the-variants.{At}
+use Rattle.order.specs.declared.Place.the-variants.{Fine, At}
 use Rattle.order.specs.Order.{labelsFrom, wordRight, firstFrom, firstFault}
-use Rattle.order.proofs.Search.{rest-start, rest-fault}
+use Rattle.order.proofs.Search.{rest-fault}
 use Rattle.order.proofs.first_fault.Statement.{statement}
 use Rattle.order.proofs.first_fault.Tie as tie
 
@@ -19,7 +20,7 @@ among-rows :
     p ≡ firstFault s words
 unfolding firstFault
 among-rows s words p k l h e =
-    e ∙ rest-fault (wordRight s words) (length words) (labelsFrom s) 0 k (rest-start (wordRight s words) (length words)) (omega (arith, l)) (sym h ∙ e)
+    e ∙ rest-fault (wordRight s words) (length words) (labelsFrom s) 0 k (rest-start At Fine (wordRight s words) (length words)) (omega (arith, l)) (sym h ∙ e)
 
 rows-fault-requires : tie.Need-rows-fault-requires
 rows-fault-requires c κs = search needs

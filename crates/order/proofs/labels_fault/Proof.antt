@@ -7,12 +7,13 @@ use native.Mathlib.Omega.{arith}
 use borrow.Author.Needs.{needs}
 use borrow.Author.Tests.{not-true, not-false}
 use lib.ListN.{length, getD}
+use Rattle.meaning.proofs.Search.{Rest, rest-start, rest-end, rest-right, rest-wrong}
 use Rattle.places.specs.Places.{labelLevel}
 use Rattle.order.specs.declared.Shape.{Shape}
 use Rattle.order.specs.declared.Place.{Place}
-use Rattle.order.specs.declared.Place.the-variants.{At}
+use Rattle.order.specs.declared.Place.the-variants.{Fine, At}
 use Rattle.order.specs.Order.{labelRight, labelsFrom, wordRight, firstFrom, firstFault}
-use Rattle.order.proofs.Search.{at-label, Rest, rest-start, rest-end, rest-right, rest-wrong, rest-fine}
+use Rattle.order.proofs.Search.{at-label, rest-fine}
 use Rattle.order.proofs.labels_fault.Statement.{statement}
 use Rattle.order.proofs.labels_fault.Tie as tie
 
@@ -23,7 +24,7 @@ all s = labelsFrom s + s .allowed
 record AtLabel (s : Shape) (words : List ℕ) (from i : ℕ) : Type 0 where
   most : i ≤ s .allowed
   begins : from ≡ labelsFrom s
-  rest : Rest (wordRight s words) (all s) (labelsFrom s + i)
+  rest : Rest At Fine (wordRight s words) (all s) (labelsFrom s + i)
 
 -- The search over so many places is the whole.
 whole : (s : Shape) (words : List ℕ) (p : Place) → all s ≡ length words → p ≡ firstFrom (wordRight s words) 0 (all s) → p ≡ firstFault s words
@@ -53,7 +54,7 @@ loop-holds c =
       most = omega arith;
       begins = begin (c .before);
       rest = rest-fine (wordRight s (a .args .words .now)) (all s) (labelsFrom s) 0 (labelsFrom s + 0)
-          (rest-start (wordRight s (a .args .words .now)) (all s)) (omega arith) (sym (a .pre .1)) (omega arith);
+          (rest-start At Fine (wordRight s (a .args .words .now)) (all s)) (omega arith) (sym (a .pre .1)) (omega arith);
     }
 
 label-level-requires : tie.Need-label-level-requires Inv-loop μ-loop
@@ -103,7 +104,7 @@ returns c =
     let s = a .args .s in
     whole s (a .args .words .now) _ (a .pre .0 .2)
     (ap (λ (n : ℕ). At (n + l .i)) (begin (r .before .before .before .before .before .before .before))
-    ∙ rest-wrong (wordRight s (a .args .words .now)) (all s) (labelsFrom s + l .i) (l .inv .rest) (omega arith) (said r _ (not-true _ (c .if2 .taken))))
+    ∙ rest-wrong At Fine (wordRight s (a .args .words .now)) (all s) (labelsFrom s + l .i) (l .inv .rest) (omega arith) (said r _ (not-true _ (c .if2 .taken))))
 
 add-i : tie.Need-add-i Inv-loop μ-loop
 add-i c = omega arith
@@ -120,7 +121,7 @@ loop-again c =
     record {
       most = omega arith;
       begins = l .inv .begins;
-      rest = rest-right (wordRight s (a .args .words .now)) (all s) (labelsFrom s + l .i) (labelsFrom s + (l .i + 1)) (l .inv .rest) (omega arith)
+      rest = rest-right At Fine (wordRight s (a .args .words .now)) (all s) (labelsFrom s + l .i) (labelsFrom s + (l .i + 1)) (l .inv .rest) (omega arith)
           (said r _ (not-false _ (c .if2 .left))) (omega arith);
     }
 
@@ -129,7 +130,7 @@ returns-2 c =
     let a = c .before .before .before .before .before .before in
     let l = c .before .before .loop in
     let s = a .args .s in
-    whole s (a .args .words .now) _ (a .pre .0 .2) (rest-end (wordRight s (a .args .words .now)) (all s) (labelsFrom s + l .i) (l .inv .rest) (omega arith))
+    whole s (a .args .words .now) _ (a .pre .0 .2) (rest-end At Fine (wordRight s (a .args .words .now)) (all s) (labelsFrom s + l .i) (l .inv .rest) (omega arith))
 
 pub labels-fault-spec : {M : Type 1} → statement M
 labels-fault-spec =

@@ -6,6 +6,7 @@ use native.Mathlib.Omega.{arith}
 use native.Mathlib.Nat.{mul-le-mul-right, zero-mul}
 use borrow.Author.Needs.{needs}
 use borrow.Author.Tests.{not-true, not-false}
+use Rattle.meaning.proofs.Search.{Rest, rest-start, rest-end, rest-right, rest-wrong}
 use Rattle.places.specs.Places.{rowAt, rowLength}
 use Rattle.order.specs.declared.Shape.{Shape}
 use Rattle.order.specs.declared.Place.{Place}
@@ -14,19 +15,19 @@ use Rattle.order.specs.Order.{wordRight, labelsFrom}
 use Rattle.order.proofs.Cells.{row-fits}
 use Rattle.places.proofs.Rows.{next-row}
 use Rattle.order.proofs.Levels.{levelPlace, levelSearch}
-use Rattle.order.proofs.Search.{at-cell, Rest, rest-start, rest-end, rest-right, rest-wrong, rest-fine, rest-fault}
+use Rattle.order.proofs.Search.{at-cell, rest-fine, rest-fault}
 use Rattle.order.proofs.rows_fault.Statement.{statement}
 use Rattle.order.proofs.rows_fault.Tie as tie
 
 record AtRow (s : Shape) (words : List ℕ) (place : Place) (r : ℕ) : Type 0 where
   most : r ≤ s .rows
   none : place ≡ Fine
-  rest : Rest (wordRight s words) (labelsFrom s) (rowAt (s .allowed) r)
+  rest : Rest At Fine (wordRight s words) (labelsFrom s) (rowAt (s .allowed) r)
 
 record InRow (s : Shape) (words : List ℕ) (place : Place) (r l : ℕ) : Type 0 where
   most : l ≤ s .allowed + 1
   none : place ≡ Fine
-  rest : Rest (wordRight s words) (labelsFrom s) (levelPlace s r l)
+  rest : Rest At Fine (wordRight s words) (labelsFrom s) (levelPlace s r l)
 
 abbrev Inv-loop : tie.InvT-loop
 Inv-loop words s rows allowed w place₀ r l₀ place l = InRow s words place r l
@@ -73,7 +74,7 @@ row-length-requires c κs = search needs
 rows-holds : tie.Need-rows-holds Inv-loop μ-loop Inv-rows μ-rows
 rows-holds c =
     let s = c .before .before in
-    record { most = omega arith; none = refl; rest = rw (zero-mul (rowLength (s .args .s .allowed))) (rest-start (wordRight (s .args .s) (s .args .words .now)) (labelsFrom (s .args .s))) }
+    record { most = omega arith; none = refl; rest = rw (zero-mul (rowLength (s .args .s .allowed))) (rest-start At Fine (wordRight (s .args .s) (s .args .words .now)) (labelsFrom (s .args .s))) }
 
 cell-right-requires : tie.Need-cell-right-requires Inv-loop μ-loop Inv-rows μ-rows
 cell-right-requires c κs =
@@ -94,7 +95,7 @@ loop-holds c =
     record {
       most = omega arith;
       none = i .inv .none;
-      rest = rest-right (wordRight (s .args .s) (s .args .words .now)) (labelsFrom (s .args .s)) (rowAt (s .args .s .allowed) (i .r)) _ (i .inv .rest) (omega (arith, within (c .before .before))) right (omega arith);
+      rest = rest-right At Fine (wordRight (s .args .s) (s .args .words .now)) (labelsFrom (s .args .s)) (rowAt (s .args .s .allowed) (i .r)) _ (i .inv .rest) (omega (arith, within (c .before .before))) right (omega arith);
     }
 
 level-fault-requires : tie.Need-level-fault-requires Inv-loop μ-loop Inv-rows μ-rows
@@ -142,7 +143,7 @@ rows-again c =
     record {
       most = omega arith;
       none = l .inv .none;
-      rest = subst (λ (k : ℕ). Rest (wordRight (s .args .s) (s .args .words .now)) (labelsFrom (s .args .s)) k) e (l .inv .rest);
+      rest = subst (λ (k : ℕ). Rest At Fine (wordRight (s .args .s) (s .args .words .now)) (labelsFrom (s .args .s)) k) e (l .inv .rest);
     }
 
 returns : tie.Need-returns Inv-loop μ-loop Inv-rows μ-rows
@@ -150,7 +151,7 @@ returns c =
     let s = c .before .before .before .before in
     let i = c .before .rows in
     let all : rowAt (s .args .s .allowed) (s .args .s .rows) ≤ rowAt (s .args .s .allowed) (i .r) = mul-le-mul-right (rowLength (s .args .s .allowed)) (omega arith) in
-    i .inv .none ∙ rest-end (wordRight (s .args .s) (s .args .words .now)) (labelsFrom (s .args .s)) _ (i .inv .rest) (omega arith)
+    i .inv .none ∙ rest-end At Fine (wordRight (s .args .s) (s .args .words .now)) (labelsFrom (s .args .s)) _ (i .inv .rest) (omega arith)
 
 returns-2 : tie.Need-returns-2 Inv-loop μ-loop Inv-rows μ-rows
 returns-2 c =
@@ -158,7 +159,7 @@ returns-2 c =
     let i = c .before .before .before .rows in
     let wrong = said (c .before) ∙ not-true _ (c .if1 .taken) in
     ap At (omega (arith, start (c .before .before .before)))
-    ∙ rest-wrong (wordRight (s .args .s) (s .args .words .now)) (labelsFrom (s .args .s)) (rowAt (s .args .s .allowed) (i .r)) (i .inv .rest) (omega (arith, within (c .before .before))) wrong
+    ∙ rest-wrong At Fine (wordRight (s .args .s) (s .args .words .now)) (labelsFrom (s .args .s)) (rowAt (s .args .s .allowed) (i .r)) (i .inv .rest) (omega (arith, within (c .before .before))) wrong
 
 returns-3 : tie.Need-returns-3 Inv-loop μ-loop Inv-rows μ-rows
 returns-3 c =

@@ -2,12 +2,14 @@
 use mathlib.Core.Bool.{true, false}
 use mathlib.Core.List.{List}
 use mathlib.Core.Path.{_≡_, sym, _∙_}
-use Prim.Native.Nat.{ℕ}
+use Prim.Native.Nat.{ℕ, _<_, _≤_}
 use borrow.Author.Needs.{needs}
 use borrow.Author.Tests.{lt-ltb, le-ltb, not-true, not-false, eq-eqb, ne-eqb}
+use native.Mathlib.Omega.{arith}
 use Rattle.meaning.specs.Table.{bodyAt}
+use Rattle.meaning.proofs.Search.{some-wrong, none-wrong}
 use Rattle.bodies.specs.Sound.{statesIn, labelsIn}
-use Rattle.table.specs.File.{Sizes, isShort, headerRight, contentsRight, lengthRight}
+use Rattle.table.specs.File.{Sizes, isShort, headerRight, entryRight, contentsRight, lengthRight, bodyRight, wrongEntry, wrongBody}
 use Rattle.offsets.proofs.Bounds.{place-same}
 use Rattle.table.proofs.Header.{sizes-read}
 use Rattle.table.proofs.read.Statement.{statement}
@@ -30,7 +32,10 @@ sized c = sizes-read _ (header (c .before .before)) _ _ (c .before .byte .ensure
 
 -- nor does line 3
 contents : (c : tie.Else3) → contentsRight (file (c .before .before .before .before .before .before)) ≡ true
-contents c = sym (c .before .contents-right .ensures) ∙ not-false _ (c .if3 .left)
+contents c =
+    let f = file (c .before .before .before .before .before .before) in
+    let l : 5 ≤ wrongEntry f = omega (arith, c .if3 .left, c .before .wrong-entry .ensures) in
+    none-wrong 5 (entryRight f) l
 
 -- the length that n and k fix
 length-told : (c : tie.After-file-length) → let f = file (c .before .before .before .before .before .before .before) in
@@ -58,13 +63,27 @@ byte-requires c κs = search needs
 byte-requires-2 : tie.Need-byte-requires-2
 byte-requires-2 c κs = search needs
 
-contents-right-requires : tie.Need-contents-right-requires
-contents-right-requires c κs = (c .before .before .before .before .if1 .left, sized c)
+wrong-entry-requires : tie.Need-wrong-entry-requires
+wrong-entry-requires c κs = (c .before .before .before .before .if1 .left, sized c)
+
+wrong-field-requires : tie.Need-wrong-field-requires
+wrong-field-requires c κs = (c .before .before .before .before .before .before .if1 .left, (sized (c .before .before), c .if3 .taken))
+
+add-t13 : tie.Need-add-t13
+add-t13 c = search needs
 
 returns-3 : tie.Need-returns-3
 returns-3 c =
-    let h = c .before .before .before .before in
-    rw (long (h .before .before), header h, sym (c .before .contents-right .ensures) ∙ not-true _ (c .if3 .taken))
+    let h = c .before .before .before .before .before in
+    let f = file (h .before .before) in
+    let l : wrongEntry f < 5 = omega (arith, c .before .if3 .taken, c .before .before .wrong-entry .ensures) in
+    rw (
+      long (h .before .before),
+      header h,
+      some-wrong 5 (entryRight f) l,
+      c .wrong-field .ensures,
+      c .before .before .wrong-entry .ensures,
+    )
 
 file-length-requires : tie.Need-file-length-requires
 file-length-requires c κs = let s = sized (c .before .before) in (s .few-states, s .few-labels)
@@ -79,29 +98,45 @@ returns-4 c =
       ne-eqb _ _ (λ e. c .if4 .taken (e ∙ sym (length-told (c .before)))),
     )
 
-bodies-right-requires : tie.Need-bodies-right-requires
-bodies-right-requires c κs = (sized (c .before .before .before .before), c .if4 .left ∙ c .before .file-length .ensures)
+wrong-body-requires : tie.Need-wrong-body-requires
+wrong-body-requires c κs = (sized (c .before .before .before .before), c .if4 .left ∙ c .before .file-length .ensures)
+
+wrong-byte-requires : tie.Need-wrong-byte-requires
+wrong-byte-requires c κs =
+    let d = c .before .before in
+    (sized (d .before .before .before .before), (d .if4 .left ∙ d .before .file-length .ensures, c .if5 .taken))
+
+add-t18 : tie.Need-add-t18
+add-t18 c = search needs
 
 returns-5 : tie.Need-returns-5
 returns-5 c =
-    let h = c .before .before .before .before .before .before .before .before in
+    let d = c .before .before .before in
+    let h = d .before .before .before .before .before .before in
+    let f = file (h .before .before) in
+    let l : wrongBody f < 5 = omega (arith, c .before .if5 .taken, c .before .before .wrong-body .ensures) in
     rw (
       long (h .before .before),
       header h,
-      contents (c .before .before .before .before),
-      long-enough (c .before .before),
-      sym (c .before .bodies-right .ensures) ∙ not-true _ (c .if5 .taken),
+      contents (d .before .before),
+      long-enough d,
+      some-wrong 5 (bodyRight f) l,
+      c .wrong-byte .ensures,
+      c .before .before .wrong-body .ensures,
     )
 
 returns-6 : tie.Need-returns-6
 returns-6 c =
-    let h = c .before .before .before .before .before .before .before .before in
+    let d = c .before .before in
+    let h = d .before .before .before .before .before .before in
+    let f = file (h .before .before) in
+    let l : 5 ≤ wrongBody f = omega (arith, c .if5 .left, c .before .wrong-body .ensures) in
     rw (
       long (h .before .before),
       header h,
-      contents (c .before .before .before .before),
-      long-enough (c .before .before),
-      sym (c .before .bodies-right .ensures) ∙ not-false _ (c .if5 .left),
+      contents (d .before .before),
+      long-enough d,
+      none-wrong 5 (bodyRight f) l,
     ) (cc)
 
 pub read-spec : {M : Type 1} → statement M
@@ -113,10 +148,14 @@ read-spec =
     returns-2
     byte-requires
     byte-requires-2
-    contents-right-requires
+    wrong-entry-requires
+    wrong-field-requires
+    add-t13
     returns-3
     file-length-requires
     returns-4
-    bodies-right-requires
+    wrong-body-requires
+    wrong-byte-requires
+    add-t18
     returns-5
     returns-6)

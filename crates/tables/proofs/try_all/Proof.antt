@@ -6,10 +6,10 @@ use Rattle.tables.proofs.try_all.Statement.{statement}
 use Rattle.tables.proofs.try_all.Tie as tie
 
 abbrev Inv-loop : tie.InvT-loop
-Inv-loop tries i₀ i = i ≤ 39
+Inv-loop tries i₀ i = i ≤ 41
 
 abbrev μ-loop : tie.MeasureT-loop
-μ-loop tries i₀ i = 39 - i
+μ-loop tries i₀ i = 41 - i
 
 loop-holds : tie.Need-loop-holds Inv-loop μ-loop
 loop-holds c = omega arith

@@ -1,28 +1,22 @@
--- `contents_right` meets its contract. The loop's invariant: the i entries passed are right. Assumes nothing.
-use mathlib.Core.Bool.{Bool, true}
-use mathlib.Core.Path.{_≡_, refl, sym, _∙_}
-use Prim.Native.Nat.{ℕ, _-_, _≤_}
+-- `wrong_entry` meets its contract. The loop's invariant: what is left of the search is the whole search. Assumes nothing.
+use mathlib.Core.Path.{refl, sym, _∙_}
+use Prim.Native.Nat.{_-_, _≤_}
 use native.Mathlib.Omega.{arith}
 use borrow.Author.Needs.{needs}
 use borrow.Author.Tests.{not-true, not-false}
-use Rattle.meaning.specs.Masks.{all}
+use Rattle.meaning.proofs.Search.{Rest, rest-start, rest-end, rest-right, rest-wrong}
 use Rattle.table.specs.File.{entryRight}
-use Rattle.meaning.proofs.Tests.{all-more, all-passed, all-fails}
-use Rattle.table.proofs.contents_right.Statement.{statement}
-use Rattle.table.proofs.contents_right.Tie as tie
+use Rattle.table.proofs.wrong_entry.Statement.{statement}
+use Rattle.table.proofs.wrong_entry.Tie as tie
 
 abbrev Inv-loop : tie.InvT-loop
-Inv-loop table n k i₀ i = (i ≤ 5) × (all i (entryRight table) ≡ true)
+Inv-loop table n k i₀ i = (i ≤ 5) × Rest (λ j. j) 5 (entryRight table) 5 i
 
 abbrev μ-loop : tie.MeasureT-loop
 μ-loop table n k i₀ i = 5 - i
 
--- the test of a contents entry
-abbrev passes : tie.At-loop Inv-loop μ-loop → ℕ → Bool
-passes w = entryRight (w .before .before .args .table .now)
-
 loop-holds : tie.Need-loop-holds Inv-loop μ-loop
-loop-holds c = (omega arith, refl)
+loop-holds c = (omega arith, rest-start (λ j. j) 5 (entryRight (c .before .args .table .now)) 5)
 
 entry-right-requires : tie.Need-entry-right-requires Inv-loop μ-loop
 entry-right-requires c κs = search needs
@@ -31,7 +25,7 @@ returns : tie.Need-returns Inv-loop μ-loop
 returns c =
     let w = c .before .before .before in
     let e = sym (c .before .entry-right .ensures) ∙ not-true _ (c .if1 .taken) in
-    sym (all-fails 5 (passes w) (w .loop .i) (omega arith) e)
+    rest-wrong (λ j. j) 5 (entryRight (w .before .before .args .table .now)) 5 (w .loop .i) (w .loop .inv .1) (omega arith) e
 
 add-i : tie.Need-add-i Inv-loop μ-loop
 add-i c = omega arith
@@ -43,15 +37,15 @@ loop-again : tie.Need-loop-again Inv-loop μ-loop
 loop-again c =
     let w = c .before .before .before in
     let e = sym (c .before .entry-right .ensures) ∙ not-false _ (c .if1 .left) in
-    (omega arith, all-more (w .loop .i) (passes w) (w .loop .inv .1) e)
+    (omega arith, rest-right (λ j. j) 5 (entryRight (w .before .before .args .table .now)) 5 (w .loop .i) _ (w .loop .inv .1) (omega arith) e refl)
 
 returns-2 : tie.Need-returns-2 Inv-loop μ-loop
 returns-2 c =
     let w = c .before in
-    all-passed 5 (w .loop .i) (passes w) (omega arith) (omega arith) (w .loop .inv .1)
+    rest-end (λ j. j) 5 (entryRight (w .before .before .args .table .now)) 5 (w .loop .i) (w .loop .inv .1) (omega arith)
 
-pub contents-right-spec : {M : Type 1} → statement M
-contents-right-spec =
+pub wrong-entry-spec : {M : Type 1} → statement M
+wrong-entry-spec =
     tie.close
     (tie.spec
     Inv-loop

@@ -1,18 +1,17 @@
--- `bytes_below` meets its contract. The loop's invariant: the j bytes passed are below the limit. Assumes nothing.
-use mathlib.Core.Bool.{Bool, true}
-use mathlib.Core.Path.{_≡_, refl, sym}
+-- `first_above` meets its contract. The loop's invariant: what is left of the search is the whole search. Assumes nothing.
+use mathlib.Core.Bool.{Bool}
+use mathlib.Core.Path.{refl}
 use Prim.Native.Nat.{ℕ, _+_, _-_, _≤_}
 use native.Mathlib.Omega.{arith}
 use borrow.Author.Tests.{lt-ltb, le-ltb}
 use lib.Dec.{ltb}
 use lib.ListN.{getD}
-use Rattle.table.specs.File.{bytesBelow}
-use Rattle.meaning.proofs.Tests.{all-more, all-passed, all-fails}
-use Rattle.table.proofs.bytes_below.Statement.{statement}
-use Rattle.table.proofs.bytes_below.Tie as tie
+use Rattle.meaning.proofs.Search.{Rest, rest-start, rest-end, rest-right, rest-wrong}
+use Rattle.table.proofs.first_above.Statement.{statement}
+use Rattle.table.proofs.first_above.Tie as tie
 
 abbrev Inv-loop : tie.InvT-loop
-Inv-loop table from count limit j₀ j = (j ≤ count) × (bytesBelow table from j limit ≡ true)
+Inv-loop table from count limit j₀ j = (j ≤ count) × Rest (λ i. i) count (λ i. ltb (getD table (from + i) 0) limit) count j
 
 abbrev μ-loop : tie.MeasureT-loop
 μ-loop table from count limit j₀ j = count - j
@@ -22,10 +21,12 @@ abbrev passes : tie.At-loop Inv-loop μ-loop → ℕ → Bool
 passes w j = let a = w .before .before .args in ltb (getD (a .table .now) (a .from + j) 0) (a .limit)
 
 loop-holds : tie.Need-loop-holds Inv-loop μ-loop
-loop-holds c = (omega arith, refl)
+loop-holds c =
+    let a = c .before .args in
+    (omega arith, rest-start (λ i. i) (a .count) (λ i. ltb (getD (a .table .now) (a .from + i) 0) (a .limit)) (a .count))
 
-add-byte : tie.Need-add-byte Inv-loop μ-loop
-add-byte c = omega arith
+add-at : tie.Need-add-at Inv-loop μ-loop
+add-at c = omega arith
 
 byte-requires : tie.Need-byte-requires Inv-loop μ-loop
 byte-requires c κs = omega arith
@@ -33,8 +34,9 @@ byte-requires c κs = omega arith
 returns : tie.Need-returns Inv-loop μ-loop
 returns c =
     let w = c .before .before .before in
+    let n = w .before .before .args .count in
     let e = le-ltb _ _ (rw (c .before .byte .ensures) at (c .if1 .taken)) in
-    sym (all-fails (w .before .before .args .count) (passes w) (w .loop .j) (omega arith) e)
+    rest-wrong (λ i. i) n (passes w) n (w .loop .j) (w .loop .inv .1) (omega arith) e
 
 add-j : tie.Need-add-j Inv-loop μ-loop
 add-j c = omega arith
@@ -45,22 +47,24 @@ loop-less c = omega arith
 loop-again : tie.Need-loop-again Inv-loop μ-loop
 loop-again c =
     let w = c .before .before .before in
+    let n = w .before .before .args .count in
     let e = lt-ltb _ _ (rw (c .before .byte .ensures) at (c .if1 .left)) in
-    (omega arith, all-more (w .loop .j) (passes w) (w .loop .inv .1) e)
+    (omega arith, rest-right (λ i. i) n (passes w) n (w .loop .j) _ (w .loop .inv .1) (omega arith) e refl)
 
 returns-2 : tie.Need-returns-2 Inv-loop μ-loop
 returns-2 c =
     let w = c .before in
-    all-passed (w .before .before .args .count) (w .loop .j) (passes w) (omega arith) (omega arith) (w .loop .inv .1)
+    let n = w .before .before .args .count in
+    rest-end (λ i. i) n (passes w) n (w .loop .j) (w .loop .inv .1) (omega arith)
 
-pub bytes-below-spec : {M : Type 1} → statement M
-bytes-below-spec =
+pub first-above-spec : {M : Type 1} → statement M
+first-above-spec =
     tie.close
     (tie.spec
     Inv-loop
     μ-loop
     loop-holds
-    add-byte
+    add-at
     byte-requires
     returns
     add-j
