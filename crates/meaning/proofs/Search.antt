@@ -6,7 +6,7 @@ use mathlib.Core.Logic.{_⊎_, inl, inr, ⊎-elim}
 use Prim.Native.Nat.{ℕ, zero, suc, _+_, _-_, _<_, _≤_}
 use native.Mathlib.Omega.{arith}
 use native.Mathlib.Nat.{sub-zero}
-use native.Mathlib.Decide.{ℕ-discrete, decLe}
+use native.Mathlib.Decide.{ℕ-discrete}
 use Rattle.meaning.specs.Masks.{all}
 use Rattle.meaning.specs.Search.{searched, First, firstWrong}
 use Rattle.meaning.proofs.Tests.{T-true, true-T, all-give, all-fails}
@@ -88,12 +88,10 @@ module _ {A : Type 0} (at : ℕ → A) (otherwise : A) (right : ℕ → Bool) wh
 
 -- There is one first place.
 pub one-first : {right : ℕ → Bool} {i n j k : ℕ} → First right i n j → First right i n k → j ≡ k
-one-first {j = j} {k = k} f g = go (decLe (suc j) k) (decLe (suc k) j)
-  where
-    go : Dec (j < k) → Dec (k < j) → j ≡ k
-    go (yes l) d = absurd (true≢false (sym (g .passed j (f .from) l) ∙ f .fails))
-    go (no l) (yes m) = absurd (true≢false (sym (f .passed k (g .from) m) ∙ g .fails))
-    go (no l) (no m) = omega arith
+one-first {j = j} {k = k} f g =
+    let not-before : j < k → ⊥ = λ l. true≢false (sym (g .passed j (f .from) l) ∙ f .fails) in
+    let not-after : k < j → ⊥ = λ l. true≢false (sym (f .passed k (g .from) l) ∙ g .fails) in
+    omega (arith, not-before, not-after)
 
 module _ (n : ℕ) (right : ℕ → Bool) where
   -- Below n it is the first at which the test fails.
@@ -117,8 +115,6 @@ module _ (n : ℕ) (right : ℕ → Bool) where
       (decided (λ i. i) n right n 0)
 
   pub wrong-below : all n right ≡ false → firstWrong n right < n
-  wrong-below e = go (decLe (suc (firstWrong n right)) n)
-    where
-      go : Dec (firstWrong n right < n) → firstWrong n right < n
-      go (yes l) = l
-      go (no l) = absurd (true≢false (sym (none-wrong (omega arith)) ∙ e))
+  wrong-below e =
+      let some : n ≤ firstWrong n right → ⊥ = λ l. true≢false (sym (none-wrong l) ∙ e) in
+      omega (arith, some)

@@ -50,7 +50,7 @@ module _ (f : List ℕ) where
       go Offset = both-true (fieldRight f i Offset) (fieldRight f i Length) (first .1) .0
       go Length = both-true (fieldRight f i Offset) (fieldRight f i Length) (first .1) .1
 
-  -- An entry is right exactly if the field found in it is, and the fields before that one are right anyway.
+  -- An entry is right exactly if the field found in it is; the fields before that one are right anyway.
   pub by-field : (i : ℕ) → entryRight f i ≡ fieldRight f i (wrongField f i)
   by-field i = go (fieldRight f i Kind) (fieldRight f i Offset) refl refl
     where
@@ -97,15 +97,11 @@ module _ (f : List ℕ) where
   -- There is one first wrong field.
   pub one-field : {d e : ℕ} {x y : Field} → FirstField f d x → FirstField f e y → Contents d x ≡ Contents e y
   one-field {d = d} {e = e} {x = x} {y = y} g h =
-      go (decLe (suc (fieldAt (d - 1) x)) (fieldAt (e - 1) y)) (decLe (suc (fieldAt (e - 1) y)) (fieldAt (d - 1) x))
-    where
-      go : Dec (fieldAt (d - 1) x < fieldAt (e - 1) y) → Dec (fieldAt (e - 1) y < fieldAt (d - 1) x) → Contents d x ≡ Contents e y
-      go (yes l) m = absurd (true≢false (sym (h .right-before (d - 1) x l) ∙ g .wrong))
-      go (no l) (yes m) = absurd (true≢false (sym (g .right-before (e - 1) y m) ∙ h .wrong))
-      go (no l) (no m) =
-          let one = field-one (d - 1) (e - 1) x y (omega arith) in
-          let same : d ≡ e = omega (arith, one .0, g .an-entry, h .an-entry) in
-          ap₂ Contents same (one .1)
+      let not-before : fieldAt (d - 1) x < fieldAt (e - 1) y → ⊥ = λ l. true≢false (sym (h .right-before (d - 1) x l) ∙ g .wrong) in
+      let not-after : fieldAt (e - 1) y < fieldAt (d - 1) x → ⊥ = λ l. true≢false (sym (g .right-before (e - 1) y l) ∙ h .wrong) in
+      let one = field-one (d - 1) (e - 1) x y (omega (arith, not-before, not-after)) in
+      let same : d ≡ e = omega (arith, one .0, g .an-entry, h .an-entry) in
+      ap₂ Contents same (one .1)
 
 ---------------------------------------------------------------- the bodies
 
@@ -118,11 +114,9 @@ bodies-follow n k i (suc m) l =
 module _ (f : List ℕ) where
   -- A byte that does not stand after another is not of a later body.
   body-before : (i j a b : ℕ) → IsByte f i j → IsByte f a b → byteAt f i j ≤ byteAt f a b → i ≤ a
-  body-before i j a b h g l = go (decLe (suc a) i)
-    where
-      go : Dec (a < i) → i ≤ a
-      go (yes m) = absurd (omega (arith, bodies-follow (statesIn f) (labelsIn f) a i m, g .1, l))
-      go (no m) = omega arith
+  body-before i j a b h g l =
+      let later : a < i → ⊥ = λ m. omega (arith, bodies-follow (statesIn f) (labelsIn f) a i m, g .1, l) in
+      omega (arith, later)
 
   -- The first wrong byte of the first wrong body is the first wrong byte of all.
   first-byte : (i : ℕ) → First (bodyRight f) 0 5 i → FirstByte f (i + 1) (wrongByte f i)
@@ -160,13 +154,9 @@ module _ (f : List ℕ) where
   -- There is one first wrong byte.
   pub one-byte : {d e a b : ℕ} → FirstByte f d a → FirstByte f e b → Body d a ≡ Body e b
   one-byte {d = d} {e = e} {a = a} {b = b} g h =
-      go (decLe (suc (byteAt f (d - 1) a)) (byteAt f (e - 1) b)) (decLe (suc (byteAt f (e - 1) b)) (byteAt f (d - 1) a))
-    where
-      go : Dec (byteAt f (d - 1) a < byteAt f (e - 1) b) → Dec (byteAt f (e - 1) b < byteAt f (d - 1) a) → Body d a ≡ Body e b
-      go (yes l) m = absurd (true≢false (sym (h .right-before (d - 1) a (g .inside) l) ∙ g .wrong))
-      go (no l) (yes m) = absurd (true≢false (sym (g .right-before (e - 1) b (h .inside) m) ∙ h .wrong))
-      go (no l) (no m) =
-          let up = body-before (d - 1) a (e - 1) b (g .inside) (h .inside) (omega arith) in
-          let down = body-before (e - 1) b (d - 1) a (h .inside) (g .inside) (omega arith) in
-          let same : d ≡ e = omega (arith, up, down, g .a-body, h .a-body) in
-          ap₂ Body same (omega (arith, ap (λ (x : ℕ). byteAt f (x - 1) b) same))
+      let not-before : byteAt f (d - 1) a < byteAt f (e - 1) b → ⊥ = λ l. true≢false (sym (h .right-before (d - 1) a (g .inside) l) ∙ g .wrong) in
+      let not-after : byteAt f (e - 1) b < byteAt f (d - 1) a → ⊥ = λ l. true≢false (sym (g .right-before (e - 1) b (h .inside) l) ∙ h .wrong) in
+      let up = body-before (d - 1) a (e - 1) b (g .inside) (h .inside) (omega (arith, not-after)) in
+      let down = body-before (e - 1) b (d - 1) a (h .inside) (g .inside) (omega (arith, not-before)) in
+      let same : d ≡ e = omega (arith, up, down, g .a-body, h .a-body) in
+      ap₂ Body same (omega (arith, not-before, not-after, ap (λ (x : ℕ). byteAt f (x - 1) b) same))
