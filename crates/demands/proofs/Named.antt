@@ -19,13 +19,9 @@ use Rattle.answers.specs.Answers.{outcomeRank}
 use Rattle.judge.specs.declared.Judged.{Judged}
 use Rattle.judge.specs.declared.Judged.the-variants.{Fine, Refused}
 use Rattle.judge.specs.Judging.{judgedRank, tableLines}
-use Rattle.engine.specs.Calls.{After, answerOf, eventAfter, eventAnswer, startAfter, startAnswer}
+use Rattle.engine.specs.Calls.{eventAfter, eventAnswer, startAfter, startAnswer}
 use Rattle.engine.proofs.Numbers.{event-exactly, start-exactly}
-
--- An answer that refuses by the table's reason comes from such a judgement.
-by-judgement : (j : Judged) (r : Record) (after : After) (w : file.Refusal) → answerOf j r after .outcome ≡ outcome.Refused (why.Table w) → j ≡ Refused (why.Table w)
-by-judgement Fine r after w e = let z : _≡_ {A = ℕ} 0 1 = cc in absurd (omega (arith, z))
-by-judgement (Refused reason) r after w e = let same : reason ≡ why.Table w = cc in ap Refused same
+use Rattle.demands.proofs.FirstWrong.{by-judgement}
 
 -- Lines of which the table's come first, and of which each rank is given only where its line is the first that applies.
 table-named :
@@ -49,12 +45,12 @@ pub event-named :
     (f : List ℕ) (r : Record) (work reports : List ℕ) (byte : ℕ) (w : file.Refusal) →
     eventAnswer f r work reports byte .outcome ≡ outcome.Refused (why.Table w) → Named f w
 event-named f r work reports byte w e =
-    table-named f _ w (by-judgement _ r (eventAfter f r work byte) w e)
+    table-named f _ w (by-judgement _ r (eventAfter f r work byte) (why.Table w) e)
     (λ i l q. event-exactly f r work reports byte i (omega arith) .0 (ap outcomeRank e ∙ q))
 
 pub start-named :
     (f : List ℕ) (rows depth : ℕ) (work : List ℕ) (w : file.Refusal) →
     startAnswer f rows depth work .outcome ≡ outcome.Refused (why.Table w) → Named f w
 start-named f rows depth work w e =
-    table-named f _ w (by-judgement _ noRecord (startAfter f rows depth) w e)
+    table-named f _ w (by-judgement _ noRecord (startAfter f rows depth) (why.Table w) e)
     (λ i l q. start-exactly f rows depth work i l .0 (ap outcomeRank e ∙ q))

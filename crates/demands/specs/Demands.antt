@@ -14,13 +14,13 @@ use Rattle.meaning.specs.Table.{Table, tableOf}
 use Rattle.meaning.specs.Streams.{positions, openAfter, Prefix, Whole, Selects}
 use Rattle.meaning.specs.Hedges.{Hedge, Labelled, streamOf, evaluate}
 use Rattle.meaning.specs.Refusals.{FirstAt, appliesAt}
+use Rattle.meaning.specs.Search.{First}
 use Rattle.places.specs.Places.{workLength}
 use Rattle.places.specs.Memory.{Held, workWords}
 use Rattle.reports.specs.Reports.{selectedWord, failedWord}
 use Rattle.meaning.specs.Lent.{onFront}
 use Rattle.table.specs.declared.Refusal as file
 use Rattle.table.specs.Named.{Named}
-use Rattle.order.specs.declared.Shape.{Shape}
 use Rattle.order.specs.Order.{wordRight}
 use Rattle.answers.specs.declared.Record.{Record}
 use Rattle.answers.specs.declared.Event.{Event}
@@ -39,15 +39,12 @@ use Rattle.demands.specs.Deciding.{Read, CertainIn, RuledOutIn, AliveIn,
 
 ---------------------------------------------------------------- demand 1
 
--- The word at i of memory is out of order, and all before it are in order.
-pub record FirstWrong (s : Shape) (words : List ℕ) (i : ℕ) : Type 0 where
-  pub inside : i < length words
-  pub wrong : wordRight s words i ≡ false
-  pub right-before : (j : ℕ) → j < i → wordRight s words j ≡ true
-
--- The place that refusal 7 is to carry, for a table with n states and k labels.
+-- The place that refusal 7 is to carry, for a table with n states and k labels: the word there is out of order, and all before it
+-- are in order.
 abbrev pub FaultAt : Record → ℕ → ℕ → List ℕ → ℕ → Type 0
-FaultAt r n k work i = ((recordRight r ≡ false) × (i ≡ length work)) ⊎ ((recordRight r ≡ true) × FirstWrong (shapeOf r n k) work i)
+FaultAt r n k work i =
+    ((recordRight r ≡ false) × (i ≡ length work))
+    ⊎ ((recordRight r ≡ true) × First (wordRight (shapeOf r n k) work) 0 (length work) i)
 
 -- Of an event call with any table, record, memory, slice for reports and byte.
 pub record Demand1 (f : List ℕ) (r : Record) (work reports : List ℕ) (byte : ℕ) : Type 0 where
