@@ -7,27 +7,27 @@ use Rattle.answers.specs.declared.Outcome.{Outcome}
 use Rattle.answers.specs.declared.Outcome.TheVariants.{Taken, Refused}
 use Rattle.answers.specs.declared.Refusal.{Refusal}
 use Rattle.answers.specs.declared.Refusal.TheVariants as why
-use Rattle.answers.specs.Answers.{refusalNumber, refusalRank, checked, outcomeNumber, outcomeRank}
+use Rattle.answers.specs.Answers.{refusal_number, refusal_rank, checked, outcome_number, outcome_rank}
 
-pub number-at-rank : (w : Refusal) → refusalNumber w ≡ get_or (0 ∷ checked) (refusalRank w) 0
-number-at-rank (why.Table file.Short) = refl
-number-at-rank (why.Table file.Header) = refl
-number-at-rank (why.Table (file.Contents entry x)) = refl
-number-at-rank (why.Table file.Length) = refl
-number-at-rank (why.Table (file.Body body byte)) = refl
-number-at-rank why.Sizes = refl
-number-at-rank (why.Order place) = refl
-number-at-rank why.Finished = refl
-number-at-rank why.Unknown = refl
-number-at-rank why.Label = refl
-number-at-rank why.NothingOpen = refl
-number-at-rank why.ClosingLabel = refl
-number-at-rank why.TooDeep = refl
-number-at-rank why.LevelOpen = refl
-number-at-rank why.Positions = refl
-number-at-rank why.Rows = refl
+pub number_at_rank : (w : Refusal) → refusal_number w ≡ get_or (0 ∷ checked) (refusal_rank w) 0
+number_at_rank (why.Table file.Short) = refl
+number_at_rank (why.Table file.Header) = refl
+number_at_rank (why.Table (file.Contents entry x)) = refl
+number_at_rank (why.Table file.Length) = refl
+number_at_rank (why.Table (file.Body body byte)) = refl
+number_at_rank why.Sizes = refl
+number_at_rank (why.Order place) = refl
+number_at_rank why.Finished = refl
+number_at_rank why.Unknown = refl
+number_at_rank why.Label = refl
+number_at_rank why.NothingOpen = refl
+number_at_rank why.ClosingLabel = refl
+number_at_rank why.TooDeep = refl
+number_at_rank why.LevelOpen = refl
+number_at_rank why.Positions = refl
+number_at_rank why.Rows = refl
 
 -- So it is with what a call answers; 0 is before them all.
-pub outcome-at-rank : (o : Outcome) → outcomeNumber o ≡ get_or (0 ∷ checked) (outcomeRank o) 0
-outcome-at-rank (Taken reports) = refl
-outcome-at-rank (Refused w) = number-at-rank w
+pub outcome_at_rank : (o : Outcome) → outcome_number o ≡ get_or (0 ∷ checked) (outcome_rank o) 0
+outcome_at_rank (Taken reports) = refl
+outcome_at_rank (Refused w) = number_at_rank w

@@ -6,8 +6,8 @@ use Rattle.answers.specs.declared.Event.TheVariants.{Open, Point, Close, CloseOf
 
 -- 0 to 31 opens a node with that label; 32 to 63 is a point with label byte - 32; 64 closes; 65 ends; 66 to 97 closes
 -- what was opened with label byte - 66; the others mean nothing.
-abbrev pub meaningOf : ℕ → Event
-meaningOf byte =
+abbrev pub meaning_of : ℕ → Event
+meaning_of byte =
     cond (ltb byte 32) (Open byte)
     (cond (ltb byte 64) (Point (byte - 32))
     (cond (eqb byte 64) Close
@@ -15,15 +15,15 @@ meaningOf byte =
     (cond (ltb byte 98) (CloseOf (byte - 66)) Unknown))))
 
 -- The event of a stream that it is: both closes are one. The end is none, nor is what means nothing.
-abbrev pub eventOf : Event → List stream.Event
-eventOf (Open a) = stream.Open a ∷ []
-eventOf (Point a) = stream.Point a ∷ []
-eventOf Close = stream.Close ∷ []
-eventOf (CloseOf a) = stream.Close ∷ []
-eventOf End = []
-eventOf Unknown = []
+abbrev pub event_of : Event → List stream.Event
+event_of (Open a) = stream.Open a ∷ []
+event_of (Point a) = stream.Point a ∷ []
+event_of Close = stream.Close ∷ []
+event_of (CloseOf a) = stream.Close ∷ []
+event_of End = []
+event_of Unknown = []
 
 -- The events of a stream that bytes are.
-abbrev pub eventsOf : List ℕ → List stream.Event
-eventsOf [] = []
-eventsOf (b ∷ w) = eventOf (meaningOf b) ++ eventsOf w
+abbrev pub events_of : List ℕ → List stream.Event
+events_of [] = []
+events_of (b ∷ w) = event_of (meaning_of b) ++ events_of w

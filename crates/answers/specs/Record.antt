@@ -2,30 +2,30 @@
 use Rattle.std.specs.Prelude.{true, false, ℕ, ◌+◌, ◌-◌}
 use Rattle.answers.specs.declared.Record.{Record}
 
-abbrev pub startedOf : ℕ → ℕ → Record
-startedOf rows allowed =
+abbrev pub started_of : ℕ → ℕ → Record
+started_of rows allowed =
     record { rows = rows; allowed = allowed; depth = 0; alive = 0; positions = 0; finished = false }
 
 -- Zeros, not finished.
-abbrev pub noRecord : Record
-noRecord = startedOf 0 0
+abbrev pub no_record : Record
+no_record = started_of 0 0
 
-abbrev pub deeperOf : Record → Record
-deeperOf r =
+abbrev pub deeper_of : Record → Record
+deeper_of r =
     record { rows = r.rows; allowed = r.allowed; depth = r.depth + 1; alive = r.alive; positions = r.positions; finished = r.finished }
 
-abbrev pub shallowerOf : Record → Record
-shallowerOf r =
+abbrev pub shallower_of : Record → Record
+shallower_of r =
     record { rows = r.rows; allowed = r.allowed; depth = r.depth - 1; alive = r.alive; positions = r.positions; finished = r.finished }
 
-abbrev pub oneMoreOf : Record → Record
-oneMoreOf r =
+abbrev pub one_more_of : Record → Record
+one_more_of r =
     record { rows = r.rows; allowed = r.allowed; depth = r.depth; alive = r.alive; positions = r.positions + 1; finished = r.finished }
 
-abbrev pub withAlive : ℕ → Record → Record
-withAlive alive r =
+abbrev pub with_alive : ℕ → Record → Record
+with_alive alive r =
     record { rows = r.rows; allowed = r.allowed; depth = r.depth; alive = alive; positions = r.positions; finished = r.finished }
 
 -- After the end depth and alive count are 0.
-abbrev pub finishedOf : Record → Record
-finishedOf r = record { rows = r.rows; allowed = r.allowed; depth = 0; alive = 0; positions = r.positions; finished = true }
+abbrev pub finished_of : Record → Record
+finished_of r = record { rows = r.rows; allowed = r.allowed; depth = 0; alive = 0; positions = r.positions; finished = true }

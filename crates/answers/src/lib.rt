@@ -2,9 +2,9 @@
 //
 // The record goes into each call by value and the next one comes back.
 ghost use Rattle.std.specs.Prelude.{◌≡◌, ◌<◌};
-ghost use Rattle.answers.specs.Record.{startedOf, noRecord, deeperOf, shallowerOf, oneMoreOf, withAlive, finishedOf};
-ghost use Rattle.answers.specs.Bytes.{meaningOf};
-ghost use Rattle.answers.specs.Answers.{refusalNumber, outcomeNumber, nowhere, place_of, outcomePlace, refusedOf, taken_of};
+ghost use Rattle.answers.specs.Record.{started_of, no_record, deeper_of, shallower_of, one_more_of, with_alive, finished_of};
+ghost use Rattle.answers.specs.Bytes.{meaning_of};
+ghost use Rattle.answers.specs.Answers.{refusal_number, outcome_number, nowhere, place_of, outcome_place, refused_of, taken_of};
 
 #[derive(Drop)]
 pub struct Record {
@@ -21,7 +21,7 @@ pub struct Record {
 impl Record {
     // The record of a watch that has read nothing.
     pub fn started(rows: u64, allowed: u64) -> Record
-        ensures { result ≡ startedOf rows allowed }
+        ensures { result ≡ started_of rows allowed }
     {
         Record {
             rows: rows,
@@ -35,7 +35,7 @@ impl Record {
 
     // A record of zeros, not finished: that of a refused start.
     pub fn none() -> Record
-        ensures { result ≡ noRecord }
+        ensures { result ≡ no_record }
     {
         Record::started(0, 0)
     }
@@ -43,7 +43,7 @@ impl Record {
     // One level more is open.
     pub fn deeper(mut self) -> Record
         requires { self.depth < 40 }
-        ensures { result ≡ deeperOf self }
+        ensures { result ≡ deeper_of self }
     {
         self.depth = self.depth + 1;
         self
@@ -52,7 +52,7 @@ impl Record {
     // One level fewer is open.
     pub fn shallower(mut self) -> Record
         requires { 0 < self.depth }
-        ensures { result ≡ shallowerOf self }
+        ensures { result ≡ shallower_of self }
     {
         self.depth = self.depth - 1;
         self
@@ -61,7 +61,7 @@ impl Record {
     // One position more was read.
     pub fn one_more(mut self) -> Record
         requires { self.positions < 2147483647 }
-        ensures { result ≡ oneMoreOf self }
+        ensures { result ≡ one_more_of self }
     {
         self.positions = self.positions + 1;
         self
@@ -69,7 +69,7 @@ impl Record {
 
     // So many positions are alive.
     pub fn with_alive(mut self, alive: u64) -> Record
-        ensures { result ≡ withAlive alive self }
+        ensures { result ≡ with_alive alive self }
     {
         self.alive = alive;
         self
@@ -77,7 +77,7 @@ impl Record {
 
     // The stream has ended.
     pub fn finish(mut self) -> Record
-        ensures { result ≡ finishedOf self }
+        ensures { result ≡ finished_of self }
     {
         self.depth = 0;
         self.alive = 0;
@@ -99,7 +99,7 @@ pub enum Event {
 }
 
 pub fn event_of(byte: u8) -> Event
-    ensures { result ≡ meaningOf byte }
+    ensures { result ≡ meaning_of byte }
 {
     match byte {
         0..=31 => Event::Open(byte as u64),
@@ -165,7 +165,7 @@ pub enum Refusal {
 impl Refusal {
     // Its number, 01's or that of a later request. The order of checking is another one.
     pub fn number(self) -> u64
-        ensures { result ≡ refusalNumber self }
+        ensures { result ≡ refusal_number self }
     {
         match self {
             Refusal::Table(why) => why.number(),
@@ -213,7 +213,7 @@ pub enum Outcome {
 impl Outcome {
     // The refusal's number, and 0 where the call was taken.
     pub fn number(self) -> u64
-        ensures { result ≡ outcomeNumber self }
+        ensures { result ≡ outcome_number self }
     {
         match self {
             Outcome::Taken(_) => 0,
@@ -223,7 +223,7 @@ impl Outcome {
 
     // The refusal's place, and none where the call was taken.
     pub fn place(self) -> Place
-        ensures { result ≡ outcomePlace self }
+        ensures { result ≡ outcome_place self }
     {
         match self {
             Outcome::Taken(_) => Place::none(),
@@ -240,7 +240,7 @@ pub struct Answer {
 }
 
 pub fn refused(next: Record, why: Refusal) -> Answer
-    ensures { result ≡ refusedOf next why }
+    ensures { result ≡ refused_of next why }
 {
     Answer {
         next: next,

@@ -4,8 +4,8 @@
 // which every file has that `table::read` takes) and for states and labels below its n and k; each answers what `table_of`
 // the bytes says.
 ghost use Rattle.std.specs.Prelude.{◌≡◌, ◌+◌, ◌*◌, ◌<◌, length, get_or};
-ghost use Rattle.meaning.specs.Table.{table_of, in_body, bodyLength};
-ghost use Rattle.bodies.specs.Sound.{Sound, CellOf, statesIn, labelsIn};
+ghost use Rattle.meaning.specs.Table.{table_of, in_body, body_length};
+ghost use Rattle.bodies.specs.Sound.{Sound, CellOf, states_in, labels_in};
 
 // The byte at a place, as a number.
 pub fn byte(table: &[u8], at: u64) -> u64
@@ -18,7 +18,7 @@ pub fn byte(table: &[u8], at: u64) -> u64
 // Byte j of body i, both counted from 0.
 fn in_body(table: &[u8], i: u64, j: u64) -> u64
     requires sound { Sound table.now }
-    requires i_bound { (i < 5) × (j < bodyLength (statesIn table.now) (labelsIn table.now) i) }
+    requires i_bound { (i < 5) × (j < body_length (states_in table.now) (labels_in table.now) i) }
     ensures { result ≡ in_body table.now i j }
 {
     let n = byte(table, 0);

@@ -2,11 +2,11 @@
 use mathlib.Core.Path.{refl}
 use Rattle.meaning.specs.Masks.{added, within}
 use Rattle.meaning.specs.Search.{searched}
-use Rattle.order.specs.Order.{firstFault}
+use Rattle.order.specs.Order.{first_fault}
 use Rattle.cases.specs.Cases.{All, Holds, cases}
 
 pub all_hold : All Holds cases
-unfolding added within searched firstFault
+unfolding added within searched first_fault
 all_hold = (
   (refl, tt),
   (

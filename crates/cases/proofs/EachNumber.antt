@@ -4,14 +4,14 @@ use mathlib.Core.Path.{◌≡◌, refl}
 use Prim.Native.Nat.{ℕ}
 use Rattle.meaning.specs.Masks.{added, within}
 use Rattle.meaning.specs.Search.{searched}
-use Rattle.order.specs.Order.{firstFault}
+use Rattle.order.specs.Order.{first_fault}
 use Rattle.answers.specs.Answers.{checked}
-use Rattle.cases.specs.Tables.{tableW}
-use Rattle.cases.specs.EachNumber.{numbersGiven}
+use Rattle.cases.specs.Tables.{table_w}
+use Rattle.cases.specs.EachNumber.{numbers_given}
 
 abbrev Gives : List ℕ → Type 0
-Gives w = numbersGiven w ≡ checked ++ (0 ∷ [])
+Gives w = numbers_given w ≡ checked ++ (0 ∷ [])
 
-pub each_number : Gives tableW
-unfolding added within searched firstFault
+pub each_number : Gives table_w
+unfolding added within searched first_fault
 each_number = refl

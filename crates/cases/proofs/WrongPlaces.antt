@@ -3,14 +3,14 @@ use mathlib.Core.List.{List, map}
 use mathlib.Core.Path.{◌≡◌, refl}
 use Prim.Native.Nat.{ℕ}
 use Rattle.meaning.specs.Search.{searched}
-use Rattle.cases.specs.Tables.{tableW}
-use Rattle.cases.specs.WrongPlaces.{Damage, damages, at_start, atEvent}
+use Rattle.cases.specs.Tables.{table_w}
+use Rattle.cases.specs.WrongPlaces.{Damage, damages, at_start, at_event}
 
 abbrev Named : List ℕ → Type 0
 Named w =
     (map at_start (damages w) ≡ map (λ (d : Damage). d.refused) (damages w))
-    × (map (atEvent w) (damages w) ≡ map (λ (d : Damage). d.refused) (damages w))
+    × (map (at_event w) (damages w) ≡ map (λ (d : Damage). d.refused) (damages w))
 
-pub wrong-places : Named tableW
+pub wrong_places : Named table_w
 unfolding searched
-wrong-places = (refl, refl)
+wrong_places = (refl, refl)

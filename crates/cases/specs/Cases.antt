@@ -2,13 +2,13 @@
 -- about bytes is made of the start call and the event calls as a caller sees them.
 use Rattle.std.specs.Prelude.{List, [], ◌∷◌, map, ◌≡◌, ℕ, ◌+◌, ◌^◌, get_or, replicate}
 use Rattle.meaning.specs.Table.{table_of}
-use Rattle.meaning.specs.Masks.{treesOf, accsOf, downOf}
-use Rattle.places.specs.Places.{selectingAt, rejectingAt, workLength}
+use Rattle.meaning.specs.Masks.{trees_of, accs_of, down_of}
+use Rattle.places.specs.Places.{selecting_at, rejecting_at, work_length}
 use Rattle.answers.specs.declared.Outcome.{Outcome}
 use Rattle.answers.specs.declared.Outcome.TheVariants.{Taken, Refused}
-use Rattle.answers.specs.Answers.{refusalNumber}
-use Rattle.demands.specs.Watching.{Call, Told, toldAll, begun, Started}
-use Rattle.cases.specs.Tables.{tableW, tableL}
+use Rattle.answers.specs.Answers.{refusal_number}
+use Rattle.demands.specs.Watching.{Call, Told, told_all, begun, Started}
+use Rattle.cases.specs.Tables.{table_w, table_l}
 
 -- What a caller is told of an event, in 01's numbers: the words reported, or the number of the refusal.
 pub data Shown : Type 0 where
@@ -40,7 +40,7 @@ mask_of (q ∷ qs) = 2 ^ q + mask_of qs
 
 -- Memory before the start. Old contents do not matter.
 abbrev pub before : ℕ → ℕ → List ℕ
-before rows depth = replicate (workLength rows depth) 7
+before rows depth = replicate (work_length rows depth) 7
 
 -- A call with that byte, and a slice for reports just long enough.
 abbrev pub calling : ℕ → ℕ → Call
@@ -48,20 +48,20 @@ calling rows byte = record { byte = byte; lent = replicate (rows + 1) 9 }
 
 abbrev pub shown : Outcome → List ℕ → Shown
 shown (Taken count) words = reports words
-shown (Refused why) words = refused (refusalNumber why)
+shown (Refused why) words = refused (refusal_number why)
 
 -- What is told of each byte, from a taken start on.
 abbrev pub showing : List ℕ → ℕ → ℕ → List ℕ → List Shown
 showing f rows depth bytes =
-    map (λ (x : Told). shown x.outcome x.words) (toldAll f (begun f rows depth (before rows depth)) (map (calling rows) bytes))
+    map (λ (x : Told). shown x.outcome x.words) (told_all f (begun f rows depth (before rows depth)) (map (calling rows) bytes))
 
 abbrev pub Says : Claim → Type 0
-Says (TreesAre f states) = treesOf (table_of f) ≡ mask_of states
-Says (AccIs f q states) = get_or (accsOf (table_of f)) q 0 ≡ mask_of states
+Says (TreesAre f states) = trees_of (table_of f) ≡ mask_of states
+Says (AccIs f q states) = get_or (accs_of (table_of f)) q 0 ≡ mask_of states
 Says (StartSets f selecting rejecting) =
     let s = begun f 1 1 (before 1 1) in
-    Started f 1 1 (before 1 1) × (get_or s.work (selectingAt 0) 0 ≡ selecting) × (get_or s.work (rejectingAt 0) 0 ≡ rejecting)
-Says (DownIs f q x mask) = downOf (table_of f) (accsOf (table_of f)) q x ≡ mask
+    Started f 1 1 (before 1 1) × (get_or s.work (selecting_at 0) 0 ≡ selecting) × (get_or s.work (rejecting_at 0) 0 ≡ rejecting)
+Says (DownIs f q x mask) = down_of (table_of f) (accs_of (table_of f)) q x ≡ mask
 Says (Tells f rows depth bytes told) = Started f rows depth (before rows depth) × (showing f rows depth bytes ≡ told)
 
 -- Of every member of a list.
@@ -77,25 +77,25 @@ Holds c = All Says c.claims
 -- Where 01 gives no rows or depth, a few are enough: more room changes no report.
 abbrev pub cases : List Case
 cases =
-    record { number = 1; claims = TreesAre tableW (0 ∷ 4 ∷ []) ∷ [] }
-    ∷ record { number = 2; claims = AccIs tableW 1 (1 ∷ 2 ∷ []) ∷ [] }
-    ∷ record { number = 3; claims = StartSets tableW 4 25 ∷ [] }
-    ∷ record { number = 4; claims = DownIs tableW 0 4 4 ∷ DownIs tableW 0 25 25 ∷ [] }
-    ∷ record { number = 5; claims = DownIs tableW 1 25 8 ∷ [] }
-    ∷ record { number = 6; claims = DownIs tableW 2 4 21 ∷ [] }
-    ∷ record { number = 7; claims = Tells tableW 2 2 (0 ∷ 33 ∷ []) (reports [] ∷ reports (3 ∷ 4 ∷ []) ∷ []) ∷ [] }
-    ∷ record { number = 8; claims = Tells tableW 1 2 (0 ∷ 0 ∷ 33 ∷ []) (reports [] ∷ refused 15 ∷ reports (3 ∷ 4 ∷ []) ∷ []) ∷ [] }
-    ∷ record { number = 9; claims = Tells tableL 1 2 (32 ∷ 32 ∷ 65 ∷ []) (reports [] ∷ reports (2 ∷ []) ∷ reports (5 ∷ []) ∷ []) ∷ [] }
-    ∷ record { number = 10; claims = Tells tableL 2 2 (0 ∷ 32 ∷ []) (reports (2 ∷ []) ∷ reports (4 ∷ []) ∷ []) ∷ [] }
-    ∷ record { number = 11; claims = Tells tableW 2 2 (65 ∷ 65 ∷ []) (reports [] ∷ refused 8 ∷ []) ∷ [] }
+    record { number = 1; claims = TreesAre table_w (0 ∷ 4 ∷ []) ∷ [] }
+    ∷ record { number = 2; claims = AccIs table_w 1 (1 ∷ 2 ∷ []) ∷ [] }
+    ∷ record { number = 3; claims = StartSets table_w 4 25 ∷ [] }
+    ∷ record { number = 4; claims = DownIs table_w 0 4 4 ∷ DownIs table_w 0 25 25 ∷ [] }
+    ∷ record { number = 5; claims = DownIs table_w 1 25 8 ∷ [] }
+    ∷ record { number = 6; claims = DownIs table_w 2 4 21 ∷ [] }
+    ∷ record { number = 7; claims = Tells table_w 2 2 (0 ∷ 33 ∷ []) (reports [] ∷ reports (3 ∷ 4 ∷ []) ∷ []) ∷ [] }
+    ∷ record { number = 8; claims = Tells table_w 1 2 (0 ∷ 0 ∷ 33 ∷ []) (reports [] ∷ refused 15 ∷ reports (3 ∷ 4 ∷ []) ∷ []) ∷ [] }
+    ∷ record { number = 9; claims = Tells table_l 1 2 (32 ∷ 32 ∷ 65 ∷ []) (reports [] ∷ reports (2 ∷ []) ∷ reports (5 ∷ []) ∷ []) ∷ [] }
+    ∷ record { number = 10; claims = Tells table_l 2 2 (0 ∷ 32 ∷ []) (reports (2 ∷ []) ∷ reports (4 ∷ []) ∷ []) ∷ [] }
+    ∷ record { number = 11; claims = Tells table_w 2 2 (65 ∷ 65 ∷ []) (reports [] ∷ refused 8 ∷ []) ∷ [] }
     ∷ record {
       number = 12;
       claims =
-          Tells tableW 2 1 (0 ∷ 0 ∷ []) (reports [] ∷ refused 12 ∷ [])
-          ∷ Tells tableW 2 2 (64 ∷ []) (refused 11 ∷ [])
-          ∷ Tells tableW 2 2 (0 ∷ 65 ∷ []) (reports [] ∷ refused 13 ∷ [])
-          ∷ Tells tableW 2 2 (2 ∷ []) (refused 10 ∷ [])
-          ∷ Tells tableW 2 2 (66 ∷ []) (refused 11 ∷ [])
+          Tells table_w 2 1 (0 ∷ 0 ∷ []) (reports [] ∷ refused 12 ∷ [])
+          ∷ Tells table_w 2 2 (64 ∷ []) (refused 11 ∷ [])
+          ∷ Tells table_w 2 2 (0 ∷ 65 ∷ []) (reports [] ∷ refused 13 ∷ [])
+          ∷ Tells table_w 2 2 (2 ∷ []) (refused 10 ∷ [])
+          ∷ Tells table_w 2 2 (66 ∷ []) (refused 11 ∷ [])
           ∷ [];
     }
     ∷ []

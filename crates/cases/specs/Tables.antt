@@ -2,8 +2,8 @@
 use Rattle.std.specs.Prelude.{List, [], ◌∷◌, ℕ}
 
 -- Table W, 76 bytes: it selects each node of label 0 with a point of label 1 directly in it.
-abbrev pub tableW : List ℕ
-tableW =
+abbrev pub table_w : List ℕ
+table_w =
     5 ∷ 2 ∷ 0 ∷ 5
     ∷ 1 ∷ 29 ∷ 0 ∷ 2 ∷ 0
     ∷ 2 ∷ 31 ∷ 0 ∷ 10 ∷ 0
@@ -18,8 +18,8 @@ tableW =
     ∷ []
 
 -- Table L, 48 bytes: it selects a top-level point with nothing after it.
-abbrev pub tableL : List ℕ
-tableL =
+abbrev pub table_l : List ℕ
+table_l =
     3 ∷ 1 ∷ 0 ∷ 5
     ∷ 1 ∷ 29 ∷ 0 ∷ 1 ∷ 0
     ∷ 2 ∷ 30 ∷ 0 ∷ 3 ∷ 0

@@ -2,13 +2,13 @@
 -- or body, then the field or byte. Definitions only.
 use Rattle.std.specs.Prelude.{List, [], ◌∷◌, ℕ, set}
 use Rattle.answers.specs.declared.Outcome.{Outcome}
-use Rattle.answers.specs.Answers.{outcomeNumber, outcomePlace}
-use Rattle.engine.specs.Calls.{startAnswer}
-use Rattle.demands.specs.Watching.{begun, outcomeOf}
+use Rattle.answers.specs.Answers.{outcome_number, outcome_place}
+use Rattle.engine.specs.Calls.{start_answer}
+use Rattle.demands.specs.Watching.{begun, outcome_of}
 use Rattle.cases.specs.Cases.{before, calling}
 
 abbrev pub answers : Outcome → List ℕ
-answers o = outcomeNumber o ∷ (outcomePlace o).part ∷ (outcomePlace o).inside ∷ []
+answers o = outcome_number o ∷ (outcome_place o).part ∷ (outcome_place o).inside ∷ []
 
 -- A file, and what it is to be refused by.
 pub record Damage : Type 0 where
@@ -32,8 +32,8 @@ damages w =
     ∷ []
 
 abbrev pub at_start : Damage → List ℕ
-at_start d = answers (startAnswer d.file 1 1 (before 1 1)).outcome
+at_start d = answers (start_answer d.file 1 1 (before 1 1)).outcome
 
 -- An event of a watch that was started over the table as it was.
-abbrev pub atEvent : List ℕ → Damage → List ℕ
-atEvent w d = answers (outcomeOf d.file (begun w 1 1 (before 1 1)) (calling 1 0))
+abbrev pub at_event : List ℕ → Damage → List ℕ
+at_event w d = answers (outcome_of d.file (begun w 1 1 (before 1 1)) (calling 1 0))

@@ -4,7 +4,7 @@
 // same name; that these masks are the smallest sets of 01 is proved there.
 ghost use Rattle.std.specs.Prelude.{◌≡◌, ◌<◌};
 ghost use Rattle.meaning.specs.Table.{table_of};
-ghost use Rattle.meaning.specs.Masks.{points_of, appliesOf, roundOf, openingsOf, treesOf, accOf, accsOver};
+ghost use Rattle.meaning.specs.Masks.{points_of, applies_of, round_of, openings_of, trees_of, acc_of, accs_over};
 ghost use Rattle.bodies.specs.Sound.{Sound};
 
 use masks::{add, holds};
@@ -29,7 +29,7 @@ fn add_points(table: &[u8], q: u64, x: u64) -> u64
 fn add_applies(table: &[u8], trees: u64, q: u64, x: u64) -> u64
     requires sound { Sound table.now }
     requires q_bound { q < (table_of table.now).states }
-    ensures { result ≡ appliesOf (table_of table.now) trees q x }
+    ensures { result ≡ applies_of (table_of table.now) trees q x }
 {
     let n = bodies::states(table);
     let mut y = x;
@@ -46,7 +46,7 @@ fn add_applies(table: &[u8], trees: u64, q: u64, x: u64) -> u64
 // x with what each of its states steps to; a state that is added is followed at once if its turn is still to come.
 fn round(table: &[u8], trees: u64, x: u64) -> u64
     requires { Sound table.now }
-    ensures { result ≡ roundOf (table_of table.now) trees x }
+    ensures { result ≡ round_of (table_of table.now) trees x }
 {
     let n = bodies::states(table);
     let mut y = x;
@@ -63,7 +63,7 @@ fn round(table: &[u8], trees: u64, x: u64) -> u64
 // Every O(a).
 fn openings(table: &[u8]) -> u64
     requires { Sound table.now }
-    ensures { result ≡ openingsOf (table_of table.now) }
+    ensures { result ≡ openings_of (table_of table.now) }
 {
     let k = bodies::labels(table);
     let mut y = 0;
@@ -78,7 +78,7 @@ fn openings(table: &[u8]) -> u64
 // T.
 pub fn trees(table: &[u8]) -> u64
     requires { Sound table.now }
-    ensures { result ≡ treesOf (table_of table.now) }
+    ensures { result ≡ trees_of (table_of table.now) }
 {
     let mut x = openings(table);
     loop {
@@ -95,7 +95,7 @@ pub fn trees(table: &[u8]) -> u64
 fn acc(table: &[u8], trees: u64, q: u64) -> u64
     requires sound { Sound table.now }
     requires q_bound { q < (table_of table.now).states }
-    ensures { result ≡ accOf (table_of table.now) trees q }
+    ensures { result ≡ acc_of (table_of table.now) trees q }
 {
     let mut x = 1 << q;
     loop {
@@ -111,7 +111,7 @@ fn acc(table: &[u8], trees: u64, q: u64) -> u64
 // acc(q) for each of 64 states, for trees in T's place; 0 from state n on.
 pub fn accs(table: &[u8], trees: u64) -> [u64; 64]
     requires { Sound table.now }
-    ensures { result ≡ accsOver (table_of table.now) trees }
+    ensures { result ≡ accs_over (table_of table.now) trees }
 {
     let n = bodies::states(table);
     let mut sets = [0u64; 64];

@@ -9,35 +9,35 @@ use Rattle.meaning.specs.Streams as stream
 use Rattle.places.specs.Memory.{Held, Memory}
 use Rattle.answers.specs.declared.Record.{Record}
 use Rattle.answers.specs.declared.Event.TheVariants.{Unknown}
-use Rattle.answers.specs.Bytes.{meaningOf}
-use Rattle.answers.specs.Answers.{outcomeNumber}
+use Rattle.answers.specs.Bytes.{meaning_of}
+use Rattle.answers.specs.Answers.{outcome_number}
 use Rattle.judge.specs.declared.Judged.{Judged}
 use Rattle.judge.specs.declared.Judged.TheVariants.{Fine, Refused}
-use Rattle.engine.specs.Calls.{After, memoryOf}
+use Rattle.engine.specs.Calls.{After, memory_of}
 use Rattle.following.specs.Lists.{In}
-use Rattle.following.specs.Following.{memoryAfter, heldAfter, positionsOf}
-use Rattle.following.proofs.Lists.{in-nil}
-use Rattle.following.proofs.Held.{held-is}
-use Rattle.demands.specs.Watching.{Call, Stream, Watching, Started, begun, outcomeOf, given, called, calledAll, watching, joined}
+use Rattle.following.specs.Following.{memory_after, held_after, positions_of}
+use Rattle.following.proofs.Lists.{in_nil}
+use Rattle.following.proofs.Held.{held_is}
+use Rattle.demands.specs.Watching.{Call, Stream, Watching, Started, begun, outcome_of, given, called, called_all, watching, joined}
 use Rattle.demands.specs.Deciding.{Read, CertainIn, RuledOutIn, AliveIn, Pending, AliveAre}
 use Rattle.demands.specs.Demands.{Demand3, StandingDemand3}
-use Rattle.demands.proofs.Taking.{taken-judged, judgedOf, given_is, refused-call, taken-call}
+use Rattle.demands.proofs.Taking.{taken_judged, judged_of, given_is, refused_call, taken_call}
 use Rattle.demands.proofs.Reading.{Kind, kind}
-use Rattle.demands.proofs.Follows.{Follows, Early, recordAt, early, going_on, passed-as, can-read, all_closed, after-event, after-end, called-event, called-end, memory-now, follows-start, follows-call, follows-watching}
-use Rattle.demands.proofs.OneEvent.{Goes, going, goes-event, goes_end, over-decides}
-use Rattle.demands.proofs.Alive.{alive-going, alive-over}
-use Rattle.demands.proofs.SoFar.{SoFar, so-far-none, so-far-on}
-use Rattle.demands.proofs.Timely.{timely-same}
+use Rattle.demands.proofs.Follows.{Follows, Early, record_at, early, going_on, passed_as, can_read, all_closed, after_event, after_end, called_event, called_end, memory_now, follows_start, follows_call, follows_watching}
+use Rattle.demands.proofs.OneEvent.{Goes, going, goes_event, goes_end, over_decides}
+use Rattle.demands.proofs.Alive.{alive_going, alive_over}
+use Rattle.demands.proofs.SoFar.{SoFar, so_far_none, so_far_on}
+use Rattle.demands.proofs.Timely.{timely_same}
 
-goes-as : (t : Table) {before before' after after' : Stream} {words words' : List ℕ} →
+goes_as : (t : Table) {before before' after after' : Stream} {words words' : List ℕ} →
     before ≡ before' → after ≡ after' → words ≡ words' → Goes t before' after' words' → Goes t before after words
-goes-as t {before} {before'} {after} {after'} {words} {words'} e f g h =
+goes_as t {before} {before'} {after} {after'} {words} {words'} e f g h =
     subst (λ x. Goes t x after words) (sym e) (subst (λ x. Goes t before' x words) (sym f) (subst (λ x. Goes t before' after' x) (sym g) h))
 
 module _ (f : List ℕ) (rows depth : ℕ) (s : Watching) (follow : Follows f rows depth s) (c : Call) where
   -- A taken call is one taken event.
-  pub goes_on : judgedOf f s c ≡ Fine → Goes (table_of f) s.stream (called f s c).stream (given f s c)
-  goes_on fine = go (kind (meaningOf c.byte))
+  pub goes_on : judged_of f s c ≡ Fine → Goes (table_of f) s.stream (called f s c).stream (given f s c)
+  goes_on fine = go (kind (meaning_of c.byte))
     where
       free : Early f rows depth s follow c
       free = early f rows depth s follow c fine
@@ -45,45 +45,45 @@ module _ (f : List ℕ) (rows depth : ℕ) (s : Watching) (follow : Follows f ro
       before : s.stream ≡ going s.stream.events
       before = ap (λ (b : Bool). record { events = s.stream.events; ended = b }) (going_on f rows depth s follow c free)
 
-      go : Kind (meaningOf c.byte) → Goes (table_of f) s.stream (called f s c).stream (given f s c)
+      go : Kind (meaning_of c.byte) → Goes (table_of f) s.stream (called f s c).stream (given f s c)
       go (Kind.event e means) =
-          goes-as (table_of f) before (ap (λ (y : Watching). y.stream) (called-event f rows depth s follow c fine e means))
-          (given_is f s c fine ∙ ap (λ (a : After). a.reports) (after-event f rows depth s follow c free e means))
-          (goes-event (table_of f) follow.formed e follow.reads (can-read f rows depth s follow c free e means).reads_on)
+          goes_as (table_of f) before (ap (λ (y : Watching). y.stream) (called_event f rows depth s follow c fine e means))
+          (given_is f s c fine ∙ ap (λ (a : After). a.reports) (after_event f rows depth s follow c free e means))
+          (goes_event (table_of f) follow.formed e follow.reads (can_read f rows depth s follow c free e means).reads_on)
       go (Kind.end is) =
-          goes-as (table_of f) before (ap (λ (y : Watching). y.stream) (called-end f rows depth s follow c fine is))
-          (given_is f s c fine ∙ ap (λ (a : After). a.reports) (after-end f rows depth s follow c free is))
+          goes_as (table_of f) before (ap (λ (y : Watching). y.stream) (called_end f rows depth s follow c fine is))
+          (given_is f s c fine ∙ ap (λ (a : After). a.reports) (after_end f rows depth s follow c free is))
           (goes_end (table_of f) follow.formed (subst (λ (d : ℕ). stream.Prefix (table_of f) s.stream.events d) (all_closed f rows depth s follow c free is) follow.reads))
-      go (Kind.nothing is) = absurd (passed-as f rows depth s follow c free Unknown is)
+      go (Kind.nothing is) = absurd (passed_as f rows depth s follow c free Unknown is)
 
 ---------------------------------------------------------------- all reports so far
 
-joined-one : (rs : List (List ℕ)) (words : List ℕ) → joined (rs ++ (words ∷ [])) ≡ joined rs ++ words
-joined-one [] words = append-nil words
-joined-one (r ∷ rs) words = ap (λ (xs : List ℕ). r ++ xs) (joined-one rs words) ∙ sym (append_assoc r (joined rs) words)
+joined_one : (rs : List (List ℕ)) (words : List ℕ) → joined (rs ++ (words ∷ [])) ≡ joined rs ++ words
+joined_one [] words = append-nil words
+joined_one (r ∷ rs) words = ap (λ (xs : List ℕ). r ++ xs) (joined_one rs words) ∙ sym (append_assoc r (joined rs) words)
 
 abbrev pub FarOf : List ℕ → Watching → Type 0
 FarOf f s = SoFar (table_of f) s.stream (joined s.reports)
 
-so-far-call : (f : List ℕ) (rows depth : ℕ) (s : Watching) → Follows f rows depth s → FarOf f s → (c : Call) → FarOf f (called f s c)
-so-far-call f rows depth s follow far c = go (judgedOf f s c) refl
+so_far_call : (f : List ℕ) (rows depth : ℕ) (s : Watching) → Follows f rows depth s → FarOf f s → (c : Call) → FarOf f (called f s c)
+so_far_call f rows depth s follow far c = go (judged_of f s c) refl
   where
-    go : (j : Judged) → judgedOf f s c ≡ j → FarOf f (called f s c)
+    go : (j : Judged) → judged_of f s c ≡ j → FarOf f (called f s c)
     go Fine fine =
         let told : (called f s c).reports ≡ s.reports ++ (given f s c ∷ []) =
-        ap (λ (x : Watching). x.reports) (taken-call f s c fine) ∙ ap (λ (words : List ℕ). s.reports ++ (words ∷ [])) (sym (given_is f s c fine)) in
-        subst (SoFar (table_of f) (called f s c).stream) (sym (ap joined told ∙ joined-one s.reports (given f s c)))
-        (so-far-on (table_of f) s.stream (called f s c).stream (joined s.reports) (given f s c) far (goes_on f rows depth s follow c fine))
-    go (Refused why) e = subst (FarOf f) (sym (refused-call f s c why e)) far
+        ap (λ (x : Watching). x.reports) (taken_call f s c fine) ∙ ap (λ (words : List ℕ). s.reports ++ (words ∷ [])) (sym (given_is f s c fine)) in
+        subst (SoFar (table_of f) (called f s c).stream) (sym (ap joined told ∙ joined_one s.reports (given f s c)))
+        (so_far_on (table_of f) s.stream (called f s c).stream (joined s.reports) (given f s c) far (goes_on f rows depth s follow c fine))
+    go (Refused why) e = subst (FarOf f) (sym (refused_call f s c why e)) far
 
-so-far-calls : (f : List ℕ) (rows depth : ℕ) (cs : List Call) (s : Watching) → Follows f rows depth s → FarOf f s → FarOf f (calledAll f s cs)
-so-far-calls f rows depth [] s follow far = far
-so-far-calls f rows depth (c ∷ cs) s follow far =
-    so-far-calls f rows depth cs (called f s c) (follows-call f rows depth s follow c) (so-far-call f rows depth s follow far c)
+so_far_calls : (f : List ℕ) (rows depth : ℕ) (cs : List Call) (s : Watching) → Follows f rows depth s → FarOf f s → FarOf f (called_all f s cs)
+so_far_calls f rows depth [] s follow far = far
+so_far_calls f rows depth (c ∷ cs) s follow far =
+    so_far_calls f rows depth cs (called f s c) (follows_call f rows depth s follow c) (so_far_call f rows depth s follow far c)
 
-pub so-far-watching : (f : List ℕ) (rows depth : ℕ) (work : List ℕ) → Started f rows depth work → (cs : List Call) → FarOf f (watching f rows depth work cs)
-so-far-watching f rows depth work h cs =
-    so-far-calls f rows depth cs (begun f rows depth work) (follows-start f rows depth work h) (so-far-none (table_of f))
+pub so_far_watching : (f : List ℕ) (rows depth : ℕ) (work : List ℕ) → Started f rows depth work → (cs : List Call) → FarOf f (watching f rows depth work cs)
+so_far_watching f rows depth work h cs =
+    so_far_calls f rows depth cs (begun f rows depth work) (follows_start f rows depth work h) (so_far_none (table_of f))
 
 ---------------------------------------------------------------- what was decided stays decided
 
@@ -91,14 +91,14 @@ so-far-watching f rows depth work h cs =
 kept-by-calls :
     (f : List ℕ) (rows depth : ℕ) (P : Stream → Type 0) →
     ((before after : Stream) (words : List ℕ) → Goes (table_of f) before after words → P before → P after) →
-    (cs : List Call) (s : Watching) → Follows f rows depth s → P s.stream → P (calledAll f s cs).stream
+    (cs : List Call) (s : Watching) → Follows f rows depth s → P s.stream → P (called_all f s cs).stream
 kept-by-calls f rows depth P keeps [] s follow h = h
 kept-by-calls f rows depth P keeps (c ∷ cs) s follow h =
-    kept-by-calls f rows depth P keeps cs (called f s c) (follows-call f rows depth s follow c) (go (judgedOf f s c) refl)
+    kept-by-calls f rows depth P keeps cs (called f s c) (follows_call f rows depth s follow c) (go (judged_of f s c) refl)
   where
-    go : (j : Judged) → judgedOf f s c ≡ j → P (called f s c).stream
+    go : (j : Judged) → judged_of f s c ≡ j → P (called f s c).stream
     go Fine fine = keeps s.stream (called f s c).stream (given f s c) (goes_on f rows depth s follow c fine) h
-    go (Refused why) e = subst (λ (x : Watching). P x.stream) (sym (refused-call f s c why e)) h
+    go (Refused why) e = subst (λ (x : Watching). P x.stream) (sym (refused_call f s c why e)) h
 
 ---------------------------------------------------------------- what is in rows
 
@@ -111,67 +111,67 @@ module _ (f : List ℕ) (rows depth : ℕ) (s : Watching) (follow : Follows f ro
 
   -- The rows of a watch, before its end and after it.
   abbrev rows_at : Bool → List Held
-  rows_at false = (memoryAfter t w).alive
+  rows_at false = (memory_after t w).alive
   rows_at true = []
 
-  pub rows-now : (memoryOf s.now s.work).alive ≡ rows_at s.stream.ended
-  rows-now = go s.stream.ended refl
+  pub rows_now : (memory_of s.now s.work).alive ≡ rows_at s.stream.ended
+  rows_now = go s.stream.ended refl
     where
-      go : (b : Bool) → s.stream.ended ≡ b → (memoryOf s.now s.work).alive ≡ rows_at b
-      go false e = ap (λ (m : Memory). m.alive) (memory-now f rows depth s follow e)
-      go true e = ap (λ (r : Record). (memoryOf r s.work).alive) (follow.now-is ∙ ap (recordAt t rows depth follow.levels w) e)
+      go : (b : Bool) → s.stream.ended ≡ b → (memory_of s.now s.work).alive ≡ rows_at b
+      go false e = ap (λ (m : Memory). m.alive) (memory_now f rows depth s follow e)
+      go true e = ap (λ (r : Record). (memory_of r s.work).alive) (follow.now_is ∙ ap (record_at t rows depth follow.levels w) e)
 
-  alive-at : (b : Bool) → AliveAre t (record { events = w; ended = b }) (positionsOf (rows_at b))
-  alive-at false = alive-going t follow.formed follow.reads
-  alive-at true = alive-over t w
+  alive_at : (b : Bool) → AliveAre t (record { events = w; ended = b }) (positions_of (rows_at b))
+  alive_at false = alive_going t follow.formed follow.reads
+  alive_at true = alive_over t w
 
-  pub rows-alive : AliveAre t s.stream (positionsOf (memoryOf s.now s.work).alive)
-  rows-alive = subst (λ (hs : List Held). AliveAre t s.stream (positionsOf hs)) (sym rows-now) (alive-at s.stream.ended)
+  pub rows_alive : AliveAre t s.stream (positions_of (memory_of s.now s.work).alive)
+  rows_alive = subst (λ (hs : List Held). AliveAre t s.stream (positions_of hs)) (sym rows_now) (alive_at s.stream.ended)
 
-  theirs-at : (b : Bool) (h : Held) → In h (rows_at b) → h ≡ heldAfter t w h.position
-  theirs-at false h m = held-is t w h m
-  theirs-at true h m = absurd (in-nil m)
+  theirs_at : (b : Bool) (h : Held) → In h (rows_at b) → h ≡ held_after t w h.position
+  theirs_at false h m = held_is t w h m
+  theirs_at true h m = absurd (in_nil m)
 
-  pub decided-at : (b : Bool) → b ≡ true → (i : ℕ) → CertainIn t (record { events = w; ended = b }) i ⊎ RuledOutIn t (record { events = w; ended = b }) i
-  decided-at false e i = absurd (true≢false (sym e))
-  decided-at true e i = over-decides t w i
+  pub decided_at : (b : Bool) → b ≡ true → (i : ℕ) → CertainIn t (record { events = w; ended = b }) i ⊎ RuledOutIn t (record { events = w; ended = b }) i
+  decided_at false e i = absurd (true≢false (sym e))
+  decided_at true e i = over_decides t w i
 
-  pub standing-demand-3 : FarOf f s → StandingDemand3 f s
-  standing-demand-3 far =
+  pub standing_demand_3 : FarOf f s → StandingDemand3 f s
+  standing_demand_3 far =
       record {
-        rows-are-alive = rows-alive;
-        rows-are-theirs = λ h m. theirs-at s.stream.ended h (subst (In h) rows-now m);
-        decided-in-no-row = λ i d m. let (r, a) = (rows-alive.exactly i).0 m in ⊎_elim a.0 a.1 d;
+        rows_are_alive = rows_alive;
+        rows-are-theirs = λ h m. theirs_at s.stream.ended h (subst (In h) rows_now m);
+        decided-in-no-row = λ i d m. let (r, a) = (rows_alive.exactly i).0 m in ⊎_elim a.0 a.1 d;
         reported-selected = far.selected;
         reported-failed = far.failed;
         never-overturned = λ i further. (
-          λ m. kept-by-calls f rows depth (λ x. CertainIn t x i) (λ b a words g. g.certain-stays i) further s follow ((far.selected i).0 m).1,
-          λ m. kept-by-calls f rows depth (λ x. RuledOutIn t x i) (λ b a words g. g.ruled-out-stays i) further s follow ((far.failed i).0 m).1,
+          λ m. kept-by-calls f rows depth (λ x. CertainIn t x i) (λ b a words g. g.certain_stays i) further s follow ((far.selected i).0 m).1,
+          λ m. kept-by-calls f rows depth (λ x. RuledOutIn t x i) (λ b a words g. g.ruled_out_stays i) further s follow ((far.failed i).0 m).1,
         );
-        end-decides = λ e i r. decided-at s.stream.ended e i;
+        end-decides = λ e i r. decided_at s.stream.ended e i;
       }
 
 module _ (f : List ℕ) (rows depth : ℕ) (s : Watching) (follow : Follows f rows depth s) (c : Call) where
-  pub next-demand-3 : outcomeNumber (outcomeOf f s c) ≡ 0 → Demand3 f s c
-  next-demand-3 taken =
-      let g = goes_on f rows depth s follow c (taken-judged f s.now s.work c.lent c.byte taken) in
+  pub next_demand_3 : outcome_number (outcome_of f s c) ≡ 0 → Demand3 f s c
+  next_demand_3 taken =
+      let g = goes_on f rows depth s follow c (taken_judged f s.now s.work c.lent c.byte taken) in
       let pending : (i : ℕ) → Read s.stream i → AliveIn (table_of f) s.stream i → Pending (table_of f) s.stream (called f s c).stream i =
       λ i r a. record { read = g.read_stays i r; undecided = λ x. a } in
       record {
         timely = g.timely;
-        nothing-else = λ words h. timely-same (table_of f) s.stream (called f s c).stream words (given f s c) h g.timely;
+        nothing_else = λ words h. timely_same (table_of f) s.stream (called f s c).stream words (given f s c) h g.timely;
         end-reports-all = λ e i r a.
             ⊎_elim (λ h. inl ((g.timely.selected i).1 (pending i r a, h))) (λ h. inr ((g.timely.failed i).1 (pending i r a, h)))
-            (decided-at f rows depth (called f s c) (follows-call f rows depth s follow c) (called f s c).stream.ended e i);
+            (decided_at f rows depth (called f s c) (follows_call f rows depth s follow c) (called f s c).stream.ended e i);
       }
 
 ---------------------------------------------------------------- the demand
 
 module _ (f : List ℕ) (rows depth : ℕ) (work : List ℕ) (started : Started f rows depth work) (cs : List Call) where
-  pub demand-3 : (c : Call) → outcomeNumber (outcomeOf f (watching f rows depth work cs) c) ≡ 0 → Demand3 f (watching f rows depth work cs) c
-  demand-3 c taken = next-demand-3 f rows depth (watching f rows depth work cs) (follows-watching f rows depth work started cs) c taken
+  pub demand_3 : (c : Call) → outcome_number (outcome_of f (watching f rows depth work cs) c) ≡ 0 → Demand3 f (watching f rows depth work cs) c
+  demand_3 c taken = next_demand_3 f rows depth (watching f rows depth work cs) (follows_watching f rows depth work started cs) c taken
 
-  pub demand-3-standing : StandingDemand3 f (watching f rows depth work cs)
-  demand-3-standing =
-      standing-demand-3 f rows depth (watching f rows depth work cs) (follows-watching f rows depth work started cs)
-      (so-far-watching f rows depth work started cs)
+  pub demand_3_standing : StandingDemand3 f (watching f rows depth work cs)
+  demand_3_standing =
+      standing_demand_3 f rows depth (watching f rows depth work cs) (follows_watching f rows depth work started cs)
+      (so_far_watching f rows depth work started cs)

@@ -14,51 +14,51 @@ use Rattle.order.specs.declared.Shape.{Shape}
 use Rattle.order.specs.declared.Place.{Place}
 use Rattle.order.specs.declared.Place.TheVariants.{At}
 use Rattle.order.specs.declared.Place.TheVariants as found
-use Rattle.order.specs.Order.{wordRight, firstFault}
+use Rattle.order.specs.Order.{word_right, first_fault}
 use Rattle.answers.specs.declared.Record.{Record}
 use Rattle.answers.specs.declared.Outcome.TheVariants as outcome
 use Rattle.answers.specs.declared.Refusal.{Refusal}
 use Rattle.answers.specs.declared.Refusal.TheVariants as why
-use Rattle.answers.specs.Answers.{outcomeRank}
-use Rattle.answers.specs.Bytes.{meaningOf}
+use Rattle.answers.specs.Answers.{outcome_rank}
+use Rattle.answers.specs.Bytes.{meaning_of}
 use Rattle.judge.specs.declared.Judged.{Judged}
 use Rattle.judge.specs.declared.Judged.TheVariants.{Fine, Refused}
-use Rattle.judge.specs.Judging.{judgedRank, recordRight, shape_of, faultOf, isFault, faultAt}
-use Rattle.engine.specs.Calls.{After, lines, answer_of, eventAfter, eventAnswer}
+use Rattle.judge.specs.Judging.{judged_rank, record_right, shape_of, fault_of, is_fault, fault_at}
+use Rattle.engine.specs.Calls.{After, lines, answer_of, event_after, event_answer}
 use Rattle.engine.proofs.Numbers.{event-exactly}
 use Rattle.demands.specs.Demands.{FaultAt}
 
-first-wrong : (s : Shape) (words : List ℕ) (i : ℕ) → firstFault s words ≡ At i → First (wordRight s words) 0 (length words) i
-unfolding firstFault
-first-wrong s words i e =
+first_wrong_lem : (s : Shape) (words : List ℕ) (i : ℕ) → first_fault s words ≡ At i → First (word_right s words) 0 (length words) i
+unfolding first_fault
+first_wrong_lem s words i e =
     ⊎_elim (λ h. let no : found.Fine ≡ At i = sym h.0 ∙ e in let z : ◌≡◌ {A = ℕ} 0 1 = cc in absurd (omega (arith, z)))
     (λ h. let same : At h.place ≡ At i = sym h.is ∙ e in let x : h.place ≡ i = cc in rw (sym x) h.first)
-    (decided At found.Fine (wordRight s words) (length words) 0)
+    (decided At found.Fine (word_right s words) (length words) 0)
 
-fault-at : (r : Record) (n k : ℕ) (work : List ℕ) (i : ℕ) → faultOf r n k work ≡ At i → FaultAt r n k work i
-fault-at r n k work i e = go (recordRight r) refl e
+fault_at_lem : (r : Record) (n k : ℕ) (work : List ℕ) (i : ℕ) → fault_of r n k work ≡ At i → FaultAt r n k work i
+fault_at_lem r n k work i e = go (record_right r) refl e
   where
-    go : (b : Bool) → recordRight r ≡ b → cond b (firstFault (shape_of r n k) work) (At (length work)) ≡ At i → FaultAt r n k work i
-    go true h q = inr (h, first-wrong (shape_of r n k) work i q)
+    go : (b : Bool) → record_right r ≡ b → cond b (first_fault (shape_of r n k) work) (At (length work)) ≡ At i → FaultAt r n k work i
+    go true h q = inr (h, first_wrong_lem (shape_of r n k) work i q)
     go false h q = inl (h, cc)
 
 -- A fault that is there is at its place.
-at_place : (p : Place) → isFault p ≡ true → p ≡ At (faultAt p)
+at_place : (p : Place) → is_fault p ≡ true → p ≡ At (fault_at p)
 at_place found.Fine e = absurd (true≢false (sym e))
 at_place (At i) e = refl
 
 -- An answer that refuses comes from a judgement that does, by the same reason.
-pub by-judgement : (j : Judged) (r : Record) (after : After) (reason : Refusal) → (answer_of j r after).outcome ≡ outcome.Refused reason → j ≡ Refused reason
-by-judgement Fine r after reason e = let z : ◌≡◌ {A = ℕ} 0 1 = cc in absurd (omega (arith, z))
-by-judgement (Refused other) r after reason e = let same : other ≡ reason = cc in ap Refused same
+pub by_judgement : (j : Judged) (r : Record) (after : After) (reason : Refusal) → (answer_of j r after).outcome ≡ outcome.Refused reason → j ≡ Refused reason
+by_judgement Fine r after reason e = let z : ◌≡◌ {A = ℕ} 0 1 = cc in absurd (omega (arith, z))
+by_judgement (Refused other) r after reason e = let same : other ≡ reason = cc in ap Refused same
 
 pub place_is :
     (f : List ℕ) (r : Record) (work reports : List ℕ) (byte i : ℕ) →
-    (eventAnswer f r work reports byte).outcome ≡ outcome.Refused (why.Order i) → FaultAt r (table_of f).states (table_of f).labels work i
+    (event_answer f r work reports byte).outcome ≡ outcome.Refused (why.Order i) → FaultAt r (table_of f).states (table_of f).labels work i
 place_is f r work reports byte i e =
-    let first = (event-exactly f r work reports byte 6 (omega arith)).0 (ap outcomeRank e) in
-    let p : Place = faultOf r (table_of f).states (table_of f).labels work in
-    let told : Refused (why.Order (faultAt p)) ≡ Refused (why.Order i) =
-    sym (first_gives judgedRank Fine (lines f r work (length reports) (meaningOf byte)) 6 first) ∙ by-judgement _ r (eventAfter f r work byte) (why.Order i) e in
-    let same : faultAt p ≡ i = cc in
-    fault-at r (table_of f).states (table_of f).labels work i (at_place p first.applies ∙ ap At same)
+    let first = (event-exactly f r work reports byte 6 (omega arith)).0 (ap outcome_rank e) in
+    let p : Place = fault_of r (table_of f).states (table_of f).labels work in
+    let told : Refused (why.Order (fault_at p)) ≡ Refused (why.Order i) =
+    sym (first_gives judged_rank Fine (lines f r work (length reports) (meaning_of byte)) 6 first) ∙ by_judgement _ r (event_after f r work byte) (why.Order i) e in
+    let same : fault_at p ≡ i = cc in
+    fault_at_lem r (table_of f).states (table_of f).labels work i (at_place p first.applies ∙ ap At same)

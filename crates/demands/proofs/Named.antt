@@ -8,49 +8,49 @@ use Rattle.meaning.specs.Refusals.{Line, FirstAt, first_of}
 use Rattle.meaning.proofs.Refusals.{first_gives}
 use Rattle.table.specs.declared.Refusal as file
 use Rattle.table.specs.declared.Refusal.TheVariants.{Short, Header, Contents, Length, Body}
-use Rattle.table.specs.File.{byContents, byBodies}
+use Rattle.table.specs.File.{by_contents, by_bodies}
 use Rattle.table.specs.Named.{Named}
-use Rattle.table.proofs.Named.{contents-named, bodies-named}
+use Rattle.table.proofs.Named.{contents_named, bodies_named}
 use Rattle.answers.specs.declared.Record.{Record}
 use Rattle.answers.specs.declared.Outcome.TheVariants as outcome
 use Rattle.answers.specs.declared.Refusal.TheVariants as why
-use Rattle.answers.specs.Record.{noRecord}
-use Rattle.answers.specs.Answers.{outcomeRank}
+use Rattle.answers.specs.Record.{no_record}
+use Rattle.answers.specs.Answers.{outcome_rank}
 use Rattle.judge.specs.declared.Judged.{Judged}
 use Rattle.judge.specs.declared.Judged.TheVariants.{Fine, Refused}
-use Rattle.judge.specs.Judging.{judgedRank, tableLines}
-use Rattle.engine.specs.Calls.{eventAfter, eventAnswer, startAfter, startAnswer}
+use Rattle.judge.specs.Judging.{judged_rank, table_lines}
+use Rattle.engine.specs.Calls.{event_after, event_answer, start_after, start_answer}
 use Rattle.engine.proofs.Numbers.{event-exactly, start-exactly}
-use Rattle.demands.proofs.FirstWrong.{by-judgement}
+use Rattle.demands.proofs.FirstWrong.{by_judgement}
 
 -- Lines of which the table's come first, and of which each rank is given only where its line is the first that applies.
 table-named :
-    (f : List ℕ) (rest : List (Line Judged)) (w : file.Refusal) → first_of (tableLines f ++ rest) Fine ≡ Refused (why.Table w) →
-    ((i : ℕ) → i < 6 → judgedRank (Refused (why.Table w)) ≡ i + 1 → FirstAt (tableLines f ++ rest) i) → Named f w
+    (f : List ℕ) (rest : List (Line Judged)) (w : file.Refusal) → first_of (table_lines f ++ rest) Fine ≡ Refused (why.Table w) →
+    ((i : ℕ) → i < 6 → judged_rank (Refused (why.Table w)) ≡ i + 1 → FirstAt (table_lines f ++ rest) i) → Named f w
 table-named f rest Short e first = tt
 table-named f rest Header e first = tt
 table-named f rest (Contents entry x) e first =
     let h = first 2 (omega arith) refl in
-    let told : Refused (why.Table (byContents f)) ≡ Refused (why.Table (Contents entry x)) = sym (first_gives judgedRank Fine (tableLines f ++ rest) 2 h) ∙ e in
-    let same : byContents f ≡ Contents entry x = cc in
-    subst (Named f) same (contents-named f (not-true _ h.applies))
+    let told : Refused (why.Table (by_contents f)) ≡ Refused (why.Table (Contents entry x)) = sym (first_gives judged_rank Fine (table_lines f ++ rest) 2 h) ∙ e in
+    let same : by_contents f ≡ Contents entry x = cc in
+    subst (Named f) same (contents_named f (not-true _ h.applies))
 table-named f rest Length e first = tt
 table-named f rest (Body body byte) e first =
     let h = first 4 (omega arith) refl in
-    let told : Refused (why.Table (byBodies f)) ≡ Refused (why.Table (Body body byte)) = sym (first_gives judgedRank Fine (tableLines f ++ rest) 4 h) ∙ e in
-    let same : byBodies f ≡ Body body byte = cc in
-    subst (Named f) same (bodies-named f (not-true _ h.applies))
+    let told : Refused (why.Table (by_bodies f)) ≡ Refused (why.Table (Body body byte)) = sym (first_gives judged_rank Fine (table_lines f ++ rest) 4 h) ∙ e in
+    let same : by_bodies f ≡ Body body byte = cc in
+    subst (Named f) same (bodies_named f (not-true _ h.applies))
 
 pub event-named :
     (f : List ℕ) (r : Record) (work reports : List ℕ) (byte : ℕ) (w : file.Refusal) →
-    (eventAnswer f r work reports byte).outcome ≡ outcome.Refused (why.Table w) → Named f w
+    (event_answer f r work reports byte).outcome ≡ outcome.Refused (why.Table w) → Named f w
 event-named f r work reports byte w e =
-    table-named f _ w (by-judgement _ r (eventAfter f r work byte) (why.Table w) e)
-    (λ i l q. (event-exactly f r work reports byte i (omega arith)).0 (ap outcomeRank e ∙ q))
+    table-named f _ w (by_judgement _ r (event_after f r work byte) (why.Table w) e)
+    (λ i l q. (event-exactly f r work reports byte i (omega arith)).0 (ap outcome_rank e ∙ q))
 
 pub start-named :
     (f : List ℕ) (rows depth : ℕ) (work : List ℕ) (w : file.Refusal) →
-    (startAnswer f rows depth work).outcome ≡ outcome.Refused (why.Table w) → Named f w
+    (start_answer f rows depth work).outcome ≡ outcome.Refused (why.Table w) → Named f w
 start-named f rows depth work w e =
-    table-named f _ w (by-judgement _ noRecord (startAfter f rows depth) (why.Table w) e)
-    (λ i l q. (start-exactly f rows depth work i l).0 (ap outcomeRank e ∙ q))
+    table-named f _ w (by_judgement _ no_record (start_after f rows depth) (why.Table w) e)
+    (λ i l q. (start-exactly f rows depth work i l).0 (ap outcome_rank e ∙ q))

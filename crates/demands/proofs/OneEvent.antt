@@ -8,17 +8,17 @@ use mathlib.Core.Path.{◌≡◌, refl, sym, ◌∙◌, subst}
 use Prim.Native.Nat.{ℕ, ◌≤◌}
 use native.Mathlib.Omega.{arith}
 use Rattle.meaning.specs.Table.{Table, WellFormed}
-use Rattle.meaning.specs.Masks.{accsOf}
+use Rattle.meaning.specs.Masks.{accs_of}
 use Rattle.meaning.specs.Streams.{Event, positions, marked, Reads, Prefix, Whole, Selects}
-use Rattle.meaning.proofs.Tests.{true-T, T_true}
-use Rattle.meaning.proofs.Streams.{reads-join}
+use Rattle.meaning.proofs.Tests.{true_T, T_true}
+use Rattle.meaning.proofs.Streams.{reads_join}
 use Rattle.meaning.proofs.Earliest as earliest
-use Rattle.reports.specs.Reports.{reportsOf, endReports}
-use Rattle.stepping.specs.Stepping.{stepMemory}
-use Rattle.following.specs.Following.{memoryAfter}
+use Rattle.reports.specs.Reports.{reports_of, end_reports}
+use Rattle.stepping.specs.Stepping.{step_memory}
+use Rattle.following.specs.Following.{memory_after}
 use Rattle.following.proofs.Stays as stays
-use Rattle.following.proofs.Reported.{Waits, selected-when, failed-when, reports-rise}
-use Rattle.following.proofs.Ends.{end-selected, end-failed, ends-rise}
+use Rattle.following.proofs.Reported.{Waits, selected-when, failed-when, reports_rise}
+use Rattle.following.proofs.Ends.{end-selected, end-failed, ends_rise}
 use Rattle.demands.specs.Watching.{Stream}
 use Rattle.demands.specs.Demands.{Timely}
 use Rattle.demands.specs.Deciding.{Read, CertainIn, RuledOutIn, AliveIn, Pending}
@@ -30,8 +30,8 @@ Decides t s i = CertainIn t s i ⊎ (RuledOutIn t s i ⊎ AliveIn t s i)
 -- From one stream to the next by an event that reports these words.
 pub record Goes (t : Table) (before after : Stream) (words : List ℕ) : Type 0 where
   pub read_stays : (i : ℕ) → Read before i → Read after i
-  pub certain-stays : (i : ℕ) → CertainIn t before i → CertainIn t after i
-  pub ruled-out-stays : (i : ℕ) → RuledOutIn t before i → RuledOutIn t after i
+  pub certain_stays : (i : ℕ) → CertainIn t before i → CertainIn t after i
+  pub ruled_out_stays : (i : ℕ) → RuledOutIn t before i → RuledOutIn t after i
   pub decides : (i : ℕ) → Read before i → Decides t before i
   pub never_both : (i : ℕ) → CertainIn t after i → RuledOutIn t after i → ⊥
   pub timely : Timely t before after words
@@ -47,69 +47,69 @@ module _ (t : Table) (wf : WellFormed t) {w : List Event} {d g : ℕ} (e : Event
   abbrev next : List Event
   next = w ++ (e ∷ [])
 
-  pending-is : (i : ℕ) → Waits t w e i ↔ Pending t (going w) (going next) i
-  pending-is i = (
+  pending_is : (i : ℕ) → Waits t w e i ↔ Pending t (going w) (going next) i
+  pending_is i = (
     λ h. record { read = (h.from_one, h.read); undecided = λ x. h.undecided x.1 },
     λ h. record { from_one = h.read.0; read = h.read.1; undecided = λ l. h.undecided (h.read.0, l) },
   )
 
-  pub goes-event : Goes t (going w) (going next) (reportsOf (stepMemory t (accsOf t) e (positions w) (memoryAfter t w)).alive)
-  goes-event =
+  pub goes_event : Goes t (going w) (going next) (reports_of (step_memory t (accs_of t) e (positions w) (memory_after t w)).alive)
+  goes_event =
       record {
-        read_stays = λ i h. (h.0, omega (arith, h.1, stays.positions-append w (e ∷ [])));
-        certain-stays = λ i. stays.certain-stays t i w (e ∷ []);
-        ruled-out-stays = λ i. stays.ruled-out-stays t i w (e ∷ []);
+        read_stays = λ i h. (h.0, omega (arith, h.1, stays.positions_append w (e ∷ [])));
+        certain_stays = λ i. stays.certain_stays t i w (e ∷ []);
+        ruled_out_stays = λ i. stays.ruled_out_stays t i w (e ∷ []);
         decides = λ i h. earliest.decided t wf i r h.1;
-        never_both = λ i. earliest.never_both t i (reads-join r re);
+        never_both = λ i. earliest.never_both t i (reads_join r re);
         timely = record {
-          selected = λ i. Iff.trans (selected-when t wf e r re i) (Iff.and (pending-is i) (λ h. h, λ h. h));
-          failed = λ i. Iff.trans (failed-when t wf e r re i) (Iff.and (pending-is i) (λ h. h, λ h. h));
-          ascending = reports-rise t wf e r re;
+          selected = λ i. Iff.trans (selected-when t wf e r re i) (Iff.and (pending_is i) (λ h. h, λ h. h));
+          failed = λ i. Iff.trans (failed-when t wf e r re i) (Iff.and (pending_is i) (λ h. h, λ h. h));
+          ascending = reports_rise t wf e r re;
         };
       }
 
 -- After the end the stream itself decides.
 module _ (t : Table) (w : List Event) where
-  pub over-selects : (i : ℕ) → Selects t i w ↔ CertainIn t (over w) i
-  over-selects i = (
+  pub over_selects : (i : ℕ) → Selects t i w ↔ CertainIn t (over w) i
+  over_selects i = (
     λ h c e. subst (λ x. Selects t i (w ++ x)) (sym e) (subst (Selects t i) (sym (append-nil w)) h),
     λ h. subst (Selects t i) (append-nil w) (h [] refl),
   )
 
-  pub over-fails : (i : ℕ) → (¬ Selects t i w) ↔ RuledOutIn t (over w) i
-  over-fails i = (
+  pub over_fails : (i : ℕ) → (¬ Selects t i w) ↔ RuledOutIn t (over w) i
+  over_fails i = (
     λ h c e x. h (subst (Selects t i) (append-nil w) (subst (λ y. Selects t i (w ++ y)) e x)),
     λ h x. h [] refl (subst (Selects t i) (sym (append-nil w)) x),
   )
 
-  pub over-decides : (i : ℕ) → CertainIn t (over w) i ⊎ RuledOutIn t (over w) i
-  over-decides i = go (t.final (marked t i w).newest) refl
+  pub over_decides : (i : ℕ) → CertainIn t (over w) i ⊎ RuledOutIn t (over w) i
+  over_decides i = go (t.final (marked t i w).newest) refl
     where
       go : (b : Bool) → t.final (marked t i w).newest ≡ b → CertainIn t (over w) i ⊎ RuledOutIn t (over w) i
-      go true e = inl ((over-selects i).0 (true-T e))
-      go false e = inr ((over-fails i).0 (λ h. true≢false (sym (T_true (t.final (marked t i w).newest) h) ∙ e)))
+      go true e = inl ((over_selects i).0 (true_T e))
+      go false e = inr ((over_fails i).0 (λ h. true≢false (sym (T_true (t.final (marked t i w).newest) h) ∙ e)))
 
 module _ (t : Table) (wf : WellFormed t) {w : List Event} (r : Whole t w) where
   completed : Whole t (w ++ [])
   completed = subst (Whole t) (sym (append-nil w)) r
 
-  pending-end : (i : ℕ) → ((1 ≤ i) × (i ≤ positions w) × AliveIn t (going w) i) ↔ Pending t (going w) (over w) i
-  pending-end i = (
+  pending_end : (i : ℕ) → ((1 ≤ i) × (i ≤ positions w) × AliveIn t (going w) i) ↔ Pending t (going w) (over w) i
+  pending_end i = (
     λ h. record { read = (h.0, h.1); undecided = λ x. h.2 },
     λ h. (h.read.0, h.read.1, h.undecided h.read),
   )
 
-  pub goes_end : Goes t (going w) (over w) (endReports t (memoryAfter t w).alive)
+  pub goes_end : Goes t (going w) (over w) (end_reports t (memory_after t w).alive)
   goes_end =
       record {
         read_stays = λ i h. h;
-        certain-stays = λ i h. (over-selects t w i).0 (subst (Selects t i) (append-nil w) (h [] completed));
-        ruled-out-stays = λ i h. (over-fails t w i).0 (λ x. h [] completed (subst (Selects t i) (sym (append-nil w)) x));
+        certain_stays = λ i h. (over_selects t w i).0 (subst (Selects t i) (append-nil w) (h [] completed));
+        ruled_out_stays = λ i h. (over_fails t w i).0 (λ x. h [] completed (subst (Selects t i) (sym (append-nil w)) x));
         decides = λ i h. earliest.decided t wf i r h.1;
         never_both = λ i h g. g [] refl (h [] refl);
         timely = record {
-          selected = λ i. Iff.trans (end-selected t wf r i) (Iff.and (pending-end i) (over-selects t w i));
-          failed = λ i. Iff.trans (end-failed t wf r i) (Iff.and (pending-end i) (over-fails t w i));
-          ascending = ends-rise t w;
+          selected = λ i. Iff.trans (end-selected t wf r i) (Iff.and (pending_end i) (over_selects t w i));
+          failed = λ i. Iff.trans (end-failed t wf r i) (Iff.and (pending_end i) (over_fails t w i));
+          ascending = ends_rise t w;
         };
       }

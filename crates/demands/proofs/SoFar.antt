@@ -8,38 +8,38 @@ use native.Mathlib.Decide.{dec_le}
 use native.Mathlib.Omega.{arith}
 use Rattle.meaning.specs.Table.{Table}
 use Rattle.meaning.specs.Streams.{positions}
-use Rattle.reports.specs.Reports.{selectedWord, failedWord}
+use Rattle.reports.specs.Reports.{selected_word, failed_word}
 use Rattle.following.specs.Lists.{In, times}
-use Rattle.following.proofs.Lists.{in_left, in_right, in-cases, in-as, in-nil, times-append, times_none, times-once}
+use Rattle.following.proofs.Lists.{in_left, in_right, in_cases, in_as, in_nil, times_append, times_none, times-once}
 use Rattle.demands.specs.Watching.{Stream}
 use Rattle.demands.specs.Deciding.{Read, CertainIn, RuledOutIn, AliveIn, Pending}
-use Rattle.demands.proofs.Timely.{word-is}
+use Rattle.demands.proofs.Timely.{word_is}
 use Rattle.demands.proofs.OneEvent.{Decides, Goes, going}
 
 pub record SoFar (t : Table) (s : Stream) (words : List ℕ) : Type 0 where
-  pub selected : (i : ℕ) → In (selectedWord i) words ↔ (Read s i × CertainIn t s i)
-  pub failed : (i : ℕ) → In (failedWord i) words ↔ (Read s i × RuledOutIn t s i)
+  pub selected : (i : ℕ) → In (selected_word i) words ↔ (Read s i × CertainIn t s i)
+  pub failed : (i : ℕ) → In (failed_word i) words ↔ (Read s i × RuledOutIn t s i)
   pub once : (i : ℕ) → Read s i → CertainIn t s i ⊎ RuledOutIn t s i → times i words ≡ 1
   pub none : (i : ℕ) → (Read s i → AliveIn t s i) → times i words ≡ 0
 
 -- No word speaks of a position that neither word does.
-neither-times : (i : ℕ) (words : List ℕ) → ¬ In (selectedWord i) words → ¬ In (failedWord i) words → times i words ≡ 0
-neither-times i words s f =
-    times_none i words (λ x m e. ⊎_elim (λ q. s (in-as words q m)) (λ q. f (in-as words q m)) (word-is x i e))
+neither_times : (i : ℕ) (words : List ℕ) → ¬ In (selected_word i) words → ¬ In (failed_word i) words → times i words ≡ 0
+neither_times i words s f =
+    times_none i words (λ x m e. ⊎_elim (λ q. s (in_as words q m)) (λ q. f (in_as words q m)) (word_is x i e))
 
-pub read-or-not : (s : Stream) (i : ℕ) → Dec (Read s i)
-read-or-not s i = go (dec_le 1 i) (dec_le i (positions s.events))
+pub read_or_not : (s : Stream) (i : ℕ) → Dec (Read s i)
+read_or_not s i = go (dec_le 1 i) (dec_le i (positions s.events))
   where
     go : Dec (1 ≤ i) → Dec (i ≤ positions s.events) → Dec (Read s i)
     go (yes a) (yes b) = yes (a, b)
     go (yes a) (no b) = no (λ h. b h.1)
     go (no a) b = no (λ h. a h.0)
 
-pub so-far-none : (t : Table) → SoFar t (going []) []
-so-far-none t =
+pub so_far_none : (t : Table) → SoFar t (going []) []
+so_far_none t =
     record {
-      selected = λ i. (λ h. absurd (in-nil h), λ h. absurd (omega (arith, h.0)));
-      failed = λ i. (λ h. absurd (in-nil h), λ h. absurd (omega (arith, h.0)));
+      selected = λ i. (λ h. absurd (in_nil h), λ h. absurd (omega (arith, h.0)));
+      failed = λ i. (λ h. absurd (in_nil h), λ h. absurd (omega (arith, h.0)));
       once = λ i r d. absurd (omega (arith, r));
       none = λ i h. omega arith;
     }
@@ -47,7 +47,7 @@ so-far-none t =
 module _ (t : Table) (before after : Stream) (words more : List ℕ) (far : SoFar t before words) (goes : Goes t before after more) where
   -- A position was decided before the event, or waits.
   standing : (i : ℕ) → (Read before i × (CertainIn t before i ⊎ RuledOutIn t before i)) ⊎ (Read before i → AliveIn t before i)
-  standing i = go (read-or-not before i)
+  standing i = go (read_or_not before i)
     where
       of : Read before i → Decides t before i → (Read before i × (CertainIn t before i ⊎ RuledOutIn t before i)) ⊎ (Read before i → AliveIn t before i)
       of r (inl h) = inl (r, inl h)
@@ -59,27 +59,27 @@ module _ (t : Table) (before after : Stream) (words more : List ℕ) (far : SoFa
       go (no r) = inr (λ x. absurd (r x))
 
   -- One that was decided is not reported again.
-  not-pending : (i : ℕ) → Read before i → CertainIn t before i ⊎ RuledOutIn t before i → ¬ Pending t before after i
-  not-pending i r d p = ⊎_elim (p.undecided r).0 (p.undecided r).1 d
+  not_pending : (i : ℕ) → Read before i → CertainIn t before i ⊎ RuledOutIn t before i → ¬ Pending t before after i
+  not_pending i r d p = ⊎_elim (p.undecided r).0 (p.undecided r).1 d
 
-  not-again : (i : ℕ) → Read before i → CertainIn t before i ⊎ RuledOutIn t before i → times i more ≡ 0
-  not-again i r d = neither-times i more (λ m. not-pending i r d ((goes.timely.selected i).0 m).0) (λ m. not-pending i r d ((goes.timely.failed i).0 m).0)
+  not_again : (i : ℕ) → Read before i → CertainIn t before i ⊎ RuledOutIn t before i → times i more ≡ 0
+  not_again i r d = neither_times i more (λ m. not_pending i r d ((goes.timely.selected i).0 m).0) (λ m. not_pending i r d ((goes.timely.failed i).0 m).0)
 
   -- One that waited and is decided now is reported once.
-  now-once : (i : ℕ) → Pending t before after i → CertainIn t after i ⊎ RuledOutIn t after i → times i more ≡ 1
-  now-once i p (inl h) = times-once i more goes.timely.ascending (selectedWord i) ((goes.timely.selected i).1 (p, h)) (omega arith)
-  now-once i p (inr h) = times-once i more goes.timely.ascending (failedWord i) ((goes.timely.failed i).1 (p, h)) (omega arith)
+  now_once : (i : ℕ) → Pending t before after i → CertainIn t after i ⊎ RuledOutIn t after i → times i more ≡ 1
+  now_once i p (inl h) = times-once i more goes.timely.ascending (selected_word i) ((goes.timely.selected i).1 (p, h)) (omega arith)
+  now_once i p (inr h) = times-once i more goes.timely.ascending (failed_word i) ((goes.timely.failed i).1 (p, h)) (omega arith)
 
   -- One verdict and the other one: reported so far are the positions read that have it.
   module _ (word : ℕ → ℕ) (One Other : Stream → ℕ → Type 0) (stays : (i : ℕ) → One before i → One after i) (apart : (i : ℕ) → Other before i → One after i → ⊥)
       (earlier : (i : ℕ) → In (word i) words ↔ (Read before i × One before i)) (now : (i : ℕ) → In (word i) more ↔ (Pending t before after i × One after i))
       (stand : (i : ℕ) → (Read before i × (One before i ⊎ Other before i)) ⊎ (Read before i → AliveIn t before i)) where
-    with-verdict : (i : ℕ) → In (word i) (words ++ more) ↔ (Read after i × One after i)
-    with-verdict i = (there, back)
+    with_verdict : (i : ℕ) → In (word i) (words ++ more) ↔ (Read after i × One after i)
+    with_verdict i = (there, back)
       where
         there : In (word i) (words ++ more) → Read after i × One after i
         there m =
-            ⊎_elim (λ h. let (r, c) = (earlier i).0 h in (goes.read_stays i r, stays i c)) (λ h. let (p, c) = (now i).0 h in (p.read, c)) (in-cases words more m)
+            ⊎_elim (λ h. let (r, c) = (earlier i).0 h in (goes.read_stays i r, stays i c)) (λ h. let (p, c) = (now i).0 h in (p.read, c)) (in_cases words more m)
 
         back : Read after i × One after i → In (word i) (words ++ more)
         back (r, c) =
@@ -89,14 +89,14 @@ module _ (t : Table) (before after : Stream) (words more : List ℕ) (far : SoFa
   swapped : (i : ℕ) → (Read before i × (RuledOutIn t before i ⊎ CertainIn t before i)) ⊎ (Read before i → AliveIn t before i)
   swapped i = ⊎_elim (λ h. inl (h.0, ⊎_elim inr inl h.1)) inr (standing i)
 
-  pub so-far-on : SoFar t after (words ++ more)
-  so-far-on =
+  pub so_far_on : SoFar t after (words ++ more)
+  so_far_on =
       record {
         selected =
-            with-verdict selectedWord (CertainIn t) (RuledOutIn t) goes.certain-stays (λ i b c. goes.never_both i c (goes.ruled-out-stays i b)) far.selected goes.timely.selected
+            with_verdict selected_word (CertainIn t) (RuledOutIn t) goes.certain_stays (λ i b c. goes.never_both i c (goes.ruled_out_stays i b)) far.selected goes.timely.selected
             standing;
         failed =
-            with-verdict failedWord (RuledOutIn t) (CertainIn t) goes.ruled-out-stays (λ i b c. goes.never_both i (goes.certain-stays i b) c) far.failed goes.timely.failed
+            with_verdict failed_word (RuledOutIn t) (CertainIn t) goes.ruled_out_stays (λ i b c. goes.never_both i (goes.certain_stays i b) c) far.failed goes.timely.failed
             swapped;
         once = once;
         none = none;
@@ -104,13 +104,13 @@ module _ (t : Table) (before after : Stream) (words more : List ℕ) (far : SoFa
     where
       once : (i : ℕ) → Read after i → CertainIn t after i ⊎ RuledOutIn t after i → times i (words ++ more) ≡ 1
       once i r d =
-          ⊎_elim (λ h. omega (arith, times-append i words more, far.once i h.0 h.1, not-again i h.0 h.1))
-          (λ h. omega (arith, times-append i words more, far.none i h, now-once i (record { read = r; undecided = h }) d)) (standing i)
+          ⊎_elim (λ h. omega (arith, times_append i words more, far.once i h.0 h.1, not_again i h.0 h.1))
+          (λ h. omega (arith, times_append i words more, far.none i h, now_once i (record { read = r; undecided = h }) d)) (standing i)
 
       none : (i : ℕ) → (Read after i → AliveIn t after i) → times i (words ++ more) ≡ 0
       none i h =
           let waits : Read before i → AliveIn t before i = λ r.
           let a = h (goes.read_stays i r) in
-          (λ c. a.0 (goes.certain-stays i c), λ c. a.1 (goes.ruled-out-stays i c)) in
-          let later : times i more ≡ 0 = neither-times i more (λ m. let (p, c) = (goes.timely.selected i).0 m in (h p.read).0 c) (λ m. let (p, c) = (goes.timely.failed i).0 m in (h p.read).1 c) in
-          omega (arith, times-append i words more, far.none i waits, later)
+          (λ c. a.0 (goes.certain_stays i c), λ c. a.1 (goes.ruled_out_stays i c)) in
+          let later : times i more ≡ 0 = neither_times i more (λ m. let (p, c) = (goes.timely.selected i).0 m in (h p.read).0 c) (λ m. let (p, c) = (goes.timely.failed i).0 m in (h p.read).1 c) in
+          omega (arith, times_append i words more, far.none i waits, later)

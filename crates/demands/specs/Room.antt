@@ -1,7 +1,7 @@
 -- Two watches beside each other, with different room. Definitions only.
 use Rattle.std.specs.Prelude.{List, [], ◌∷◌, ◌≡◌, ℕ, ◌+◌, ltb, length}
-use Rattle.answers.specs.Answers.{outcomeNumber}
-use Rattle.demands.specs.Watching.{Call, Watching, Told, toldAll, calledAll}
+use Rattle.answers.specs.Answers.{outcome_number}
+use Rattle.demands.specs.Watching.{Call, Watching, Told, told_all, called_all}
 
 -- The same bytes; and where the slice lent for reports is long enough for the one watch, it is for the other.
 pub data Alike (rows rows' : ℕ) : List Call → List Call → Type 0 where
@@ -14,10 +14,10 @@ pub data Alike (rows rows' : ℕ) : List Call → List Call → Type 0 where
 pub data NoWant : List Told → Type 0 where
   none : NoWant []
   over : {x : Told} {xs : List Told} →
-      ¬ (outcomeNumber x.outcome ≡ 12) → ¬ (outcomeNumber x.outcome ≡ 15) → NoWant xs → NoWant (x ∷ xs)
+      ¬ (outcome_number x.outcome ≡ 12) → ¬ (outcome_number x.outcome ≡ 15) → NoWant xs → NoWant (x ∷ xs)
 
 -- Both take and refuse the same, and report the same.
 pub record SameAnswers (f : List ℕ) (s s' : Watching) (cs cs' : List Call) : Type 0 where
-  pub same-told : toldAll f s cs ≡ toldAll f s' cs'
-  pub same-stream : (calledAll f s cs).stream ≡ (calledAll f s' cs').stream
-  pub same-reports : (calledAll f s cs).reports ≡ (calledAll f s' cs').reports
+  pub same_told : told_all f s cs ≡ told_all f s' cs'
+  pub same_stream : (called_all f s cs).stream ≡ (called_all f s' cs').stream
+  pub same_reports : (called_all f s cs).reports ≡ (called_all f s' cs').reports

@@ -8,10 +8,10 @@ use Rattle.answers.specs.declared.Event.{Event}
 use Rattle.answers.specs.declared.Event.TheVariants.{Open, Point, Close, CloseOf, End, Unknown}
 use Rattle.answers.specs.declared.Outcome.{Outcome}
 use Rattle.answers.specs.declared.Outcome.TheVariants.{Taken, Refused}
-use Rattle.answers.specs.Bytes.{meaningOf}
-use Rattle.answers.specs.Answers.{outcomeNumber}
+use Rattle.answers.specs.Bytes.{meaning_of}
+use Rattle.answers.specs.Answers.{outcome_number}
 use Rattle.judge.specs.declared.Judged.{Judged}
-use Rattle.engine.specs.Calls.{lines, eventAnswer, eventWork, eventReports, startAnswer, startWork}
+use Rattle.engine.specs.Calls.{lines, event_answer, event_work, event_reports, start_answer, start_work}
 
 -- What a caller hands to an event call beside the table, the record and work memory: the byte, and the words of the reports
 -- slice that it lends.
@@ -47,9 +47,9 @@ count_of (Taken reports) = reports
 count_of (Refused why) = 0
 
 -- The new value where the call was taken, and else the old one.
-abbrev pub onTaken : {A : Type 0} → Outcome → A → A → A
-onTaken (Taken reports) old new = new
-onTaken (Refused why) old new = old
+abbrev pub on_taken : {A : Type 0} → Outcome → A → A → A
+on_taken (Taken reports) old new = new
+on_taken (Refused why) old new = old
 
 ---------------------------------------------------------------- the start call
 
@@ -58,61 +58,61 @@ abbrev pub begun : List ℕ → ℕ → ℕ → List ℕ → Watching
 begun f rows depth work =
     record {
       stream = record { events = []; ended = false };
-      now = (startAnswer f rows depth work).next;
-      work = startWork f rows depth work;
+      now = (start_answer f rows depth work).next;
+      work = start_work f rows depth work;
       reports = [];
     }
 
 -- The start was taken.
 abbrev pub Started : List ℕ → ℕ → ℕ → List ℕ → Type 0
-Started f rows depth work = outcomeNumber (startAnswer f rows depth work).outcome ≡ 0
+Started f rows depth work = outcome_number (start_answer f rows depth work).outcome ≡ 0
 
 ---------------------------------------------------------------- an event call
 
 module _ (f : List ℕ) (s : Watching) (c : Call) where
   -- The lines of refusals that it meets.
   abbrev pub lines_of : List (Line Judged)
-  lines_of = lines f s.now s.work (length c.lent) (meaningOf c.byte)
+  lines_of = lines f s.now s.work (length c.lent) (meaning_of c.byte)
 
-  abbrev pub outcomeOf : Outcome
-  outcomeOf = (eventAnswer f s.now s.work c.lent c.byte).outcome
+  abbrev pub outcome_of : Outcome
+  outcome_of = (event_answer f s.now s.work c.lent c.byte).outcome
 
   -- The reports that the caller then reads: as many words as the answer says, from the front of the slice it lent.
   abbrev pub given : List ℕ
-  given = take (count_of outcomeOf) (eventReports f s.now s.work c.lent c.byte)
+  given = take (count_of outcome_of) (event_reports f s.now s.work c.lent c.byte)
 
   abbrev pub called : Watching
   called =
       record {
-        stream = onTaken outcomeOf s.stream (longer s.stream (meaningOf c.byte));
-        now = (eventAnswer f s.now s.work c.lent c.byte).next;
-        work = eventWork f s.now s.work c.lent c.byte;
-        reports = onTaken outcomeOf s.reports (s.reports ++ (given ∷ []));
+        stream = on_taken outcome_of s.stream (longer s.stream (meaning_of c.byte));
+        now = (event_answer f s.now s.work c.lent c.byte).next;
+        work = event_work f s.now s.work c.lent c.byte;
+        reports = on_taken outcome_of s.reports (s.reports ++ (given ∷ []));
       }
 
 ---------------------------------------------------------------- many
 
-abbrev pub calledAll : List ℕ → Watching → List Call → Watching
-calledAll f s [] = s
-calledAll f s (c ∷ cs) = calledAll f (called f s c) cs
+abbrev pub called_all : List ℕ → Watching → List Call → Watching
+called_all f s [] = s
+called_all f s (c ∷ cs) = called_all f (called f s c) cs
 
 -- The bytes of the calls that were taken.
-abbrev pub takenBytes : List ℕ → Watching → List Call → List ℕ
-takenBytes f s [] = []
-takenBytes f s (c ∷ cs) = onTaken (outcomeOf f s c) [] (c.byte ∷ []) ++ takenBytes f (called f s c) cs
+abbrev pub taken_bytes : List ℕ → Watching → List Call → List ℕ
+taken_bytes f s [] = []
+taken_bytes f s (c ∷ cs) = on_taken (outcome_of f s c) [] (c.byte ∷ []) ++ taken_bytes f (called f s c) cs
 
 -- What a caller learns from a call: the outcome, and the reports that it reads.
 pub record Told : Type 0 where
   pub outcome : Outcome
   pub words : List ℕ
 
-abbrev pub toldAll : List ℕ → Watching → List Call → List Told
-toldAll f s [] = []
-toldAll f s (c ∷ cs) = record { outcome = outcomeOf f s c; words = given f s c } ∷ toldAll f (called f s c) cs
+abbrev pub told_all : List ℕ → Watching → List Call → List Told
+told_all f s [] = []
+told_all f s (c ∷ cs) = record { outcome = outcome_of f s c; words = given f s c } ∷ told_all f (called f s c) cs
 
 -- The watched stream.
 abbrev pub watching : List ℕ → ℕ → ℕ → List ℕ → List Call → Watching
-watching f rows depth work cs = calledAll f (begun f rows depth work) cs
+watching f rows depth work cs = called_all f (begun f rows depth work) cs
 
 -- All reports, in the order in which they came.
 abbrev pub joined : List (List ℕ) → List ℕ

@@ -8,14 +8,14 @@ use lib.Seq.{take_all, length-take-le, drop_at}
 use borrow.Rule.Slice.PartMut.{put_mid}
 use Rattle.meaning.specs.Table.{Table, WellFormed}
 use Rattle.meaning.specs.Streams.{Event, Open, Point, Close}
-use Rattle.places.specs.Places.{rowLength}
+use Rattle.places.specs.Places.{row_length}
 use Rattle.rows.specs.Steps.{Can}
 use Rattle.labels.specs.Fits.{Fits}
 
 module _ (n : ℕ) (words : List ℕ) (fits : n ≤ length words) where
   -- All words from n on.
-  pub whole-rest : take (length words - n) (drop n words) ≡ drop n words
-  whole-rest = take_all (length words - n) (drop n words) (omega (arith, length-drop n words))
+  pub whole_rest : take (length words - n) (drop n words) ≡ drop n words
+  whole_rest = take_all (length words - n) (drop n words) (omega (arith, length-drop n words))
 
   -- Put anew, they stand after the first n.
   pub rest_put : (ys : List ℕ) → put_mid n (length words - n) words ys ≡ take n words ++ ys
@@ -23,11 +23,11 @@ module _ (n : ℕ) (words : List ℕ) (fits : n ≤ length words) where
       ap (λ (zs : List ℕ). take n words ++ (ys ++ zs)) (drop_of_length-le (drop n words) {i = length words - n} (omega (arith, length-drop n words)))
       ∙ ap (λ (zs : List ℕ). take n words ++ zs) (append-nil ys)
 
-  pub rest-after : (ys : List ℕ) → drop n (put_mid n (length words - n) words ys) ≡ ys
-  rest-after ys = ap (drop n) (rest_put ys) ∙ drop_at (take n words) ys n (length-take-le n words fits)
+  pub rest_after : (ys : List ℕ) → drop n (put_mid n (length words - n) words ys) ≡ ys
+  rest_after ys = ap (drop n) (rest_put ys) ∙ drop_at (take n words) ys n (length-take-le n words fits)
 
 -- An event that the rows can take can be written down among the labels.
-pub fits-of : (t : Table) → WellFormed t → (depth d : ℕ) (e : Event) → Can t (rowLength depth) d e → Fits depth d e
-fits-of t w depth d (Open a) can = (omega (arith, can.0, w.few-labels), omega (arith, can.1))
-fits-of t w depth d (Point a) can = tt
-fits-of t w depth d Close can = can
+pub fits_of : (t : Table) → WellFormed t → (depth d : ℕ) (e : Event) → Can t (row_length depth) d e → Fits depth d e
+fits_of t w depth d (Open a) can = (omega (arith, can.0, w.few_labels), omega (arith, can.1))
+fits_of t w depth d (Point a) can = tt
+fits_of t w depth d Close can = can

@@ -9,38 +9,38 @@ use Rattle.meaning.specs.Table.{Table}
 use Rattle.rows.specs.contracts.Step.{the_type}
 use Rattle.rows.specs.declared.Step.{Step}
 use Rattle.rows.specs.declared.Step.TheVariants as step
-use Rattle.rows.specs.Steps.{eventOf}
+use Rattle.rows.specs.Steps.{event_of}
 use Rattle.stepping.specs.Stepping.{Moves, Counted}
 use Rattle.answers.specs.declared.Refusal.{Refusal}
-use Rattle.answers.specs.Record.{noRecord}
-use Rattle.answers.specs.Answers.{refusedOf, taken_of}
+use Rattle.answers.specs.Record.{no_record}
+use Rattle.answers.specs.Answers.{refused_of, taken_of}
 use Rattle.judge.specs.declared.Judged.{Judged}
 use Rattle.judge.specs.declared.Judged.TheVariants.{Fine, Refused}
 use Rattle.judge.proofs.Passed.{StartPassed, start-passed}
-use Rattle.engine.specs.Calls.{accsFor, startJudged, startAfter, startAnswer, startWork}
+use Rattle.engine.specs.Calls.{accs_for, start_judged, start_after, start_answer, start_work}
 
-module _ (f : List ℕ) (rows depth : ℕ) (work : List ℕ) (j : Judged) (judged : j ≡ startJudged f rows depth work) where
+module _ (f : List ℕ) (rows depth : ℕ) (work : List ℕ) (j : Judged) (judged : j ≡ start_judged f rows depth work) where
   -- A start that is refused: no record, and work memory as it was.
   pub refused-start :
       (why : Refusal) → j ≡ Refused why →
-      (refusedOf noRecord why ≡ startAnswer f rows depth work) × (work ≡ startWork f rows depth work)
+      (refused_of no_record why ≡ start_answer f rows depth work) × (work ≡ start_work f rows depth work)
   refused-start why e =
-      let h : startJudged f rows depth work ≡ Refused why = sym judged ∙ e in
+      let h : start_judged f rows depth work ≡ Refused why = sym judged ∙ e in
       (sym (rw h), sym (rw h))
 
   -- A start that is taken.
   pub taken_start :
       j ≡ Fine →
-      (taken_of (startAfter f rows depth).next 0 ≡ startAnswer f rows depth work)
-      × ((startAfter f rows depth).work ≡ startWork f rows depth work)
+      (taken_of (start_after f rows depth).next 0 ≡ start_answer f rows depth work)
+      × ((start_after f rows depth).work ≡ start_work f rows depth work)
   taken_start e =
-      let h : startJudged f rows depth work ≡ Fine = sym judged ∙ e in
+      let h : start_judged f rows depth work ≡ Fine = sym judged ∙ e in
       (sym (rw h), sym (rw h))
 
   -- What it then has.
   pub passed_start : j ≡ Fine → StartPassed f rows depth (length work)
   passed_start e =
-      let h : startJudged f rows depth work ≡ Fine = sym judged ∙ e in
+      let h : start_judged f rows depth work ≡ Fine = sym judged ∙ e in
       start-passed f rows depth (length work) h
 
 -- The match of a step that left out the open.
@@ -48,12 +48,12 @@ abbrev pub NoOpen : Step → Type 0
 NoOpen x = OneOf (1 ∷ 2 ∷ []) (tag_of the_type x)
 
 -- A step other than an open needs no sets.
-pub no-sets : (t : Table) (x : Step) → NoOpen x → replicate 64 0 ≡ accsFor t (eventOf x)
-no-sets t (step.Open a) other = absurd (miss (1 ∷ 2 ∷ []) 0 tt other)
-no-sets t (step.Point a) other = refl
-no-sets t step.Close other = refl
+pub no_sets : (t : Table) (x : Step) → NoOpen x → replicate 64 0 ≡ accs_for t (event_of x)
+no_sets t (step.Open a) other = absurd (miss (1 ∷ 2 ∷ []) 0 tt other)
+no_sets t (step.Point a) other = refl
+no_sets t step.Close other = refl
 
 -- What is asked of an event, of the step that it is.
 pub asked-as :
-    {x y : Step} (d p : ℕ) → x ≡ y → Moves (eventOf x) d × Counted (eventOf x) p → Moves (eventOf y) d × Counted (eventOf y) p
-asked-as d p e h = subst (λ (z : Step). Moves (eventOf z) d × Counted (eventOf z) p) e h
+    {x y : Step} (d p : ℕ) → x ≡ y → Moves (event_of x) d × Counted (event_of x) p → Moves (event_of y) d × Counted (event_of y) p
+asked-as d p e h = subst (λ (z : Step). Moves (event_of z) d × Counted (event_of z) p) e h

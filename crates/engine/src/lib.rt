@@ -5,15 +5,15 @@
 ghost use Rattle.std.specs.Prelude.{◌≡◌, ◌<◌, ◌≤◌, length};
 ghost use Rattle.meaning.specs.Table.{table_of};
 ghost use Rattle.bodies.specs.Sound.{Sound};
-ghost use Rattle.meaning.specs.Streams.{openedBy};
-ghost use Rattle.meaning.specs.Lent.{onFront};
-ghost use Rattle.places.specs.Places.{rowLength};
-ghost use Rattle.places.specs.Memory.{workWords};
-ghost use Rattle.reports.specs.Reports.{reportsOf, left_of};
-ghost use Rattle.rows.specs.Steps.{eventOf, Can};
-ghost use Rattle.stepping.specs.Stepping.{Counted, Moves, stepMemory, leftMemory, countsOf};
-ghost use Rattle.engine.specs.Calls.{Ready, memoryOf, labelsOf, stepRecord, accsFor, stepped, ended, roomAnswer, roomWork, roomReports};
-ghost use Rattle.engine.specs.Calls.{eventAnswer, eventWork, eventReports, startAnswer, startWork};
+ghost use Rattle.meaning.specs.Streams.{opened_by};
+ghost use Rattle.meaning.specs.Lent.{on_front};
+ghost use Rattle.places.specs.Places.{row_length};
+ghost use Rattle.places.specs.Memory.{work_words};
+ghost use Rattle.reports.specs.Reports.{reports_of, left_of};
+ghost use Rattle.rows.specs.Steps.{event_of, Can};
+ghost use Rattle.stepping.specs.Stepping.{Counted, Moves, step_memory, left_memory, counts_of};
+ghost use Rattle.engine.specs.Calls.{Ready, memory_of, labels_of, step_record, accs_for, stepped, ended, room_answer, room_work, room_reports};
+ghost use Rattle.engine.specs.Calls.{event_answer, event_work, event_reports, start_answer, start_work};
 
 use answers::Event;
 pub use answers::{Answer, Outcome, Record, Refusal};
@@ -24,7 +24,7 @@ use stepping::Counts;
 // The sets acc for an event. An open needs them; a point and a close do without.
 fn accs_for(table: &[u8], step: Step) -> [u64; 64]
     requires { Sound table.now }
-    ensures { result ≡ accsFor (table_of table.now) (eventOf step) }
+    ensures { result ≡ accs_for (table_of table.now) (event_of step) }
 {
     match step {
         Step::Open(_) => sets::accs(table, sets::trees(table)),
@@ -34,8 +34,8 @@ fn accs_for(table: &[u8], step: Step) -> [u64; 64]
 
 // The record after an event, its alive count apart.
 fn step_record(r: Record, step: Step) -> Record
-    requires { Moves (eventOf step) r.depth × Counted (eventOf step) r.positions }
-    ensures { result ≡ stepRecord (eventOf step) r }
+    requires { Moves (event_of step) r.depth × Counted (event_of step) r.positions }
+    ensures { result ≡ step_record (event_of step) r }
 {
     match step {
         Step::Open(_) => r.deeper().one_more(),
@@ -55,12 +55,12 @@ fn take(
 ) -> Counts
     requires sound { Sound table.now }
     requires ready { Ready (table_of table.now).states r work.old }
-    requires can { Can (table_of table.now) (rowLength r.allowed) r.depth (eventOf step) × Counted (eventOf step) r.positions }
+    requires can { Can (table_of table.now) (row_length r.allowed) r.depth (event_of step) × Counted (event_of step) r.positions }
     requires rows_in_bounds { r.rows < length reports.old }
-    requires work_len_bound { length (left_of (stepMemory (table_of table.now) accs.now (eventOf step) r.positions (memoryOf r work.old)).alive) ≤ r.rows }
-    ensures value { result ≡ countsOf (stepMemory (table_of table.now) accs.now (eventOf step) r.positions (memoryOf r work.old)) }
-    ensures work_after { work.new ≡ workWords r.rows r.allowed (leftMemory (stepMemory (table_of table.now) accs.now (eventOf step) r.positions (memoryOf r work.old))) (openedBy (labelsOf r work.old) (eventOf step)) }
-    ensures reports_after { reports.new ≡ onFront (reportsOf (stepMemory (table_of table.now) accs.now (eventOf step) r.positions (memoryOf r work.old)).alive) reports.old }
+    requires work_len_bound { length (left_of (step_memory (table_of table.now) accs.now (event_of step) r.positions (memory_of r work.old)).alive) ≤ r.rows }
+    ensures value { result ≡ counts_of (step_memory (table_of table.now) accs.now (event_of step) r.positions (memory_of r work.old)) }
+    ensures work_after { work.new ≡ work_words r.rows r.allowed (left_memory (step_memory (table_of table.now) accs.now (event_of step) r.positions (memory_of r work.old))) (opened_by (labels_of r work.old) (event_of step)) }
+    ensures reports_after { reports.new ≡ on_front (reports_of (step_memory (table_of table.now) accs.now (event_of step) r.positions (memory_of r work.old)).alive) reports.old }
 {
     let rows = r.rows as usize;
     let allowed = r.allowed as usize;
@@ -85,11 +85,11 @@ fn take(
 fn step(table: &[u8], r: Record, work: &mut [u64], reports: &mut [u32], step: Step) -> Answer
     requires sound { Sound table.now }
     requires ready { Ready (table_of table.now).states r work.old }
-    requires can { Can (table_of table.now) (rowLength r.allowed) r.depth (eventOf step) × Counted (eventOf step) r.positions }
+    requires can { Can (table_of table.now) (row_length r.allowed) r.depth (event_of step) × Counted (event_of step) r.positions }
     requires rows_in_bounds { r.rows < length reports.old }
-    ensures value { result ≡ roomAnswer r (stepped (table_of table.now) r work.old (eventOf step)) }
-    ensures work_after { work.new ≡ roomWork r work.old (stepped (table_of table.now) r work.old (eventOf step)) }
-    ensures reports_after { reports.new ≡ roomReports r reports.old (stepped (table_of table.now) r work.old (eventOf step)) }
+    ensures value { result ≡ room_answer r (stepped (table_of table.now) r work.old (event_of step)) }
+    ensures work_after { work.new ≡ room_work r work.old (stepped (table_of table.now) r work.old (event_of step)) }
+    ensures reports_after { reports.new ≡ room_reports r reports.old (stepped (table_of table.now) r work.old (event_of step)) }
 {
     let rows = r.rows as usize;
     let allowed = r.allowed as usize;
@@ -110,9 +110,9 @@ fn end(table: &[u8], r: Record, work: &mut [u64], reports: &mut [u32]) -> Answer
     requires sound { Sound table.now }
     requires ready { Ready (table_of table.now).states r work.old }
     requires depth_value { (r.depth ≡ 0) × (r.rows < length reports.old) }
-    ensures value { result ≡ roomAnswer r (ended (table_of table.now) r work.old) }
-    ensures work_after { work.new ≡ roomWork r work.old (ended (table_of table.now) r work.old) }
-    ensures reports_after { reports.new ≡ roomReports r reports.old (ended (table_of table.now) r work.old) }
+    ensures value { result ≡ room_answer r (ended (table_of table.now) r work.old) }
+    ensures work_after { work.new ≡ room_work r work.old (ended (table_of table.now) r work.old) }
+    ensures reports_after { reports.new ≡ room_reports r reports.old (ended (table_of table.now) r work.old) }
 {
     let n = places::rows_length(r.rows as usize, r.allowed as usize);
     stepping::take_end(
@@ -134,9 +134,9 @@ pub fn event(
     reports: &mut [u32],
     byte: u8,
 ) -> Answer
-    ensures value { result ≡ eventAnswer table.now «record» work.old reports.old byte }
-    ensures work_after { work.new ≡ eventWork table.now «record» work.old reports.old byte }
-    ensures reports_after { reports.new ≡ eventReports table.now «record» work.old reports.old byte }
+    ensures value { result ≡ event_answer table.now «record» work.old reports.old byte }
+    ensures work_after { work.new ≡ event_work table.now «record» work.old reports.old byte }
+    ensures reports_after { reports.new ≡ event_reports table.now «record» work.old reports.old byte }
 {
     let event = answers::event_of(byte);
     let judged = judge::judge(table, record, work, reports.len(), event);
@@ -155,8 +155,8 @@ pub fn event(
 
 // A watch over the table: its first record, and work memory made ready for it, or a refusal.
 pub fn start(table: &[u8], rows: u64, depth: u64, work: &mut [u64]) -> Answer
-    ensures value { result ≡ startAnswer table.now rows depth work.old }
-    ensures work_after { work.new ≡ startWork table.now rows depth work.old }
+    ensures value { result ≡ start_answer table.now rows depth work.old }
+    ensures work_after { work.new ≡ start_work table.now rows depth work.old }
 {
     let judged = judge::judge_start(table, rows, depth, work.len());
     if let Judged::Refused(why) = judged {

@@ -2,24 +2,24 @@
 use Rattle.std.specs.Prelude.{List, [], ℕ, length}
 use Rattle.meaning.specs.Table.{table_of}
 use Rattle.meaning.specs.Refusals.{first_of}
-use Rattle.places.specs.Memory.{workWords}
-use Rattle.stepping.specs.Stepping.{startMemory}
+use Rattle.places.specs.Memory.{work_words}
+use Rattle.stepping.specs.Stepping.{start_memory}
 use Rattle.answers.specs.declared.Answer.{Answer}
-use Rattle.answers.specs.Record.{startedOf, noRecord}
+use Rattle.answers.specs.Record.{started_of, no_record}
 use Rattle.judge.specs.declared.Judged.{Judged}
 use Rattle.judge.specs.declared.Judged.TheVariants.{Fine}
-use Rattle.judge.specs.Judging.{startLines}
+use Rattle.judge.specs.Judging.{start_lines}
 use Rattle.taking.specs.Calls.{After, unless, answer_of}
 
-abbrev pub startJudged : List ℕ → ℕ → ℕ → List ℕ → Judged
-startJudged f rows depth work = first_of (startLines f rows depth (length work)) Fine
+abbrev pub start_judged : List ℕ → ℕ → ℕ → List ℕ → Judged
+start_judged f rows depth work = first_of (start_lines f rows depth (length work)) Fine
 
-abbrev pub startAfter : List ℕ → ℕ → ℕ → After
-startAfter f rows depth =
-    record { next = startedOf rows depth; work = workWords rows depth (startMemory (table_of f)) []; reports = [] }
+abbrev pub start_after : List ℕ → ℕ → ℕ → After
+start_after f rows depth =
+    record { next = started_of rows depth; work = work_words rows depth (start_memory (table_of f)) []; reports = [] }
 
-abbrev pub startAnswer : List ℕ → ℕ → ℕ → List ℕ → Answer
-startAnswer f rows depth work = answer_of (startJudged f rows depth work) noRecord (startAfter f rows depth)
+abbrev pub start_answer : List ℕ → ℕ → ℕ → List ℕ → Answer
+start_answer f rows depth work = answer_of (start_judged f rows depth work) no_record (start_after f rows depth)
 
-abbrev pub startWork : List ℕ → ℕ → ℕ → List ℕ → List ℕ
-startWork f rows depth work = unless (startJudged f rows depth work) work (startAfter f rows depth).work
+abbrev pub start_work : List ℕ → ℕ → ℕ → List ℕ → List ℕ
+start_work f rows depth work = unless (start_judged f rows depth work) work (start_after f rows depth).work

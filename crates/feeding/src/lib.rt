@@ -8,10 +8,10 @@ ghost use Rattle.std.specs.Prelude.{◌≡◌, length};
 ghost use Rattle.meaning.specs.Table.{table_of};
 ghost use Rattle.bodies.specs.Sound.{Sound};
 ghost use Rattle.judge.specs.Clear.{Clear};
-ghost use Rattle.taking.specs.Calls.{AccsIf, isOpen, eventAnswer, eventWork, eventReports};
-ghost use Rattle.answers.specs.Bytes.{meaningOf};
-ghost use Rattle.feeding.specs.Starting.{startAnswer, startWork};
-ghost use Rattle.feeding.specs.Feeding.{Going, opensIn, accsFor, begun, stopped, answerBy, state_of, turned, isGoing, fedFrom};
+ghost use Rattle.taking.specs.Calls.{AccsIf, is_open, event_answer, event_work, event_reports};
+ghost use Rattle.answers.specs.Bytes.{meaning_of};
+ghost use Rattle.feeding.specs.Starting.{start_answer, start_work};
+ghost use Rattle.feeding.specs.Feeding.{Going, opens_in, accs_for, begun, stopped, answer_by, state_of, turned, is_going, fed_from};
 
 use answers::Event;
 pub use answers::{Answer, Outcome, Record, Refusal};
@@ -61,7 +61,7 @@ impl Fed {
 
     // Is there to be another byte?
     fn is_going(self) -> bool
-        ensures { result ≡ isGoing self }
+        ensures { result ≡ is_going self }
     {
         let stop = self.stop;
         let next = self.next;
@@ -73,7 +73,7 @@ impl Fed {
 
     // The answer to a block's one byte.
     fn answer(self) -> Answer
-        ensures { result ≡ answerBy self }
+        ensures { result ≡ answer_by self }
     {
         let stop = self.stop;
         let next = self.next;
@@ -85,7 +85,7 @@ impl Fed {
 }
 
 fn is_open(byte: u8) -> bool
-    ensures { result ≡ isOpen (meaningOf byte) }
+    ensures { result ≡ is_open (meaning_of byte) }
 {
     let event = answers::event_of(byte);
     match event {
@@ -96,7 +96,7 @@ fn is_open(byte: u8) -> bool
 
 // Does a byte of the block open a node?
 fn has_open(block: &[u8]) -> bool
-    ensures { result ≡ opensIn block.now }
+    ensures { result ≡ opens_in block.now }
 {
     let mut i = 0;
     while i < block.len() {
@@ -111,7 +111,7 @@ fn has_open(block: &[u8]) -> bool
 // The sets acc for a block. An open needs them; a point and a close do without.
 fn accs_for(table: &[u8], block: &[u8]) -> [u64; 64]
     requires { Sound table.now }
-    ensures { result ≡ accsFor (table_of table.now) block.now }
+    ensures { result ≡ accs_for (table_of table.now) block.now }
 {
     if has_open(block) {
         return sets::accs(table, sets::trees(table));
@@ -130,7 +130,7 @@ fn turn(
     byte: u8,
 ) -> Fed
     requires going { Going table.now (state_of fed work.old reports.old counts.old) }
-    requires accs_if { AccsIf (table_of table.now) (isOpen (meaningOf byte)) accs.now }
+    requires accs_if { AccsIf (table_of table.now) (is_open (meaning_of byte)) accs.now }
     ensures value { result ≡ (turned table.now (state_of fed work.old reports.old counts.old) byte).fed }
     ensures work_after { work.new ≡ (turned table.now (state_of fed work.old reports.old counts.old) byte).work }
     ensures reports_after { reports.new ≡ (turned table.now (state_of fed work.old reports.old counts.old) byte).reports }
@@ -178,11 +178,11 @@ fn feed_clear(
     block: &[u8],
 ) -> Fed
     requires clear { Clear table.now r work.old (length reports.old) }
-    requires accs_if { AccsIf (table_of table.now) (opensIn block.now) accs.now }
-    ensures value { result ≡ (fedFrom table.now (state_of (begun r) work.old reports.old counts.old) block.now).fed }
-    ensures work_after { work.new ≡ (fedFrom table.now (state_of (begun r) work.old reports.old counts.old) block.now).work }
-    ensures reports_after { reports.new ≡ (fedFrom table.now (state_of (begun r) work.old reports.old counts.old) block.now).reports }
-    ensures counts_after { counts.new ≡ (fedFrom table.now (state_of (begun r) work.old reports.old counts.old) block.now).counts }
+    requires accs_if { AccsIf (table_of table.now) (opens_in block.now) accs.now }
+    ensures value { result ≡ (fed_from table.now (state_of (begun r) work.old reports.old counts.old) block.now).fed }
+    ensures work_after { work.new ≡ (fed_from table.now (state_of (begun r) work.old reports.old counts.old) block.now).work }
+    ensures reports_after { reports.new ≡ (fed_from table.now (state_of (begun r) work.old reports.old counts.old) block.now).reports }
+    ensures counts_after { counts.new ≡ (fed_from table.now (state_of (begun r) work.old reports.old counts.old) block.now).counts }
 {
     let mut fed = Fed::begun(r);
     let mut i: usize = 0;
@@ -206,10 +206,10 @@ pub fn feed(
     counts: &mut [u32],
     block: &[u8],
 ) -> Fed
-    ensures value { result ≡ (fedFrom table.now (state_of (begun «record») work.old reports.old counts.old) block.now).fed }
-    ensures work_after { work.new ≡ (fedFrom table.now (state_of (begun «record») work.old reports.old counts.old) block.now).work }
-    ensures reports_after { reports.new ≡ (fedFrom table.now (state_of (begun «record») work.old reports.old counts.old) block.now).reports }
-    ensures counts_after { counts.new ≡ (fedFrom table.now (state_of (begun «record») work.old reports.old counts.old) block.now).counts }
+    ensures value { result ≡ (fed_from table.now (state_of (begun «record») work.old reports.old counts.old) block.now).fed }
+    ensures work_after { work.new ≡ (fed_from table.now (state_of (begun «record») work.old reports.old counts.old) block.now).work }
+    ensures reports_after { reports.new ≡ (fed_from table.now (state_of (begun «record») work.old reports.old counts.old) block.now).reports }
+    ensures counts_after { counts.new ≡ (fed_from table.now (state_of (begun «record») work.old reports.old counts.old) block.now).counts }
 {
     if block.len() == 0 {
         return Fed::begun(record);
@@ -234,9 +234,9 @@ pub fn event(
     reports: &mut [u32],
     byte: u8,
 ) -> Answer
-    ensures value { result ≡ eventAnswer table.now «record» work.old reports.old byte }
-    ensures work_after { work.new ≡ eventWork table.now «record» work.old reports.old byte }
-    ensures reports_after { reports.new ≡ eventReports table.now «record» work.old reports.old byte }
+    ensures value { result ≡ event_answer table.now «record» work.old reports.old byte }
+    ensures work_after { work.new ≡ event_work table.now «record» work.old reports.old byte }
+    ensures reports_after { reports.new ≡ event_reports table.now «record» work.old reports.old byte }
 {
     let block = [byte];
     let mut counts = [0u32; 1];
@@ -246,8 +246,8 @@ pub fn event(
 
 // A watch over the table: its first record, and work memory made ready for it, or a refusal.
 pub fn start(table: &[u8], rows: u64, depth: u64, work: &mut [u64]) -> Answer
-    ensures value { result ≡ startAnswer table.now rows depth work.old }
-    ensures work_after { work.new ≡ startWork table.now rows depth work.old }
+    ensures value { result ≡ start_answer table.now rows depth work.old }
+    ensures work_after { work.new ≡ start_work table.now rows depth work.old }
 {
     let judged = judge::judge_start(table, rows, depth, work.len());
     if let Judged::Refused(why) = judged {

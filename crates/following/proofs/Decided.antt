@@ -7,14 +7,14 @@ use Prim.Native.Nat.{ℕ, ◌≤◌}
 use lib.Dec.{T}
 use Rattle.meaning.specs.Table.{Table, WellFormed}
 use Rattle.meaning.specs.Streams.{Event, positions, Prefix, Certain, RuledOut, Alive}
-use Rattle.meaning.specs.Rows.{isSelecting, isRejecting, rowAfter}
-use Rattle.meaning.proofs.Earliest.{certain-is, ruled-out-is}
-use Rattle.rows.specs.Steps.{isDecided}
+use Rattle.meaning.specs.Rows.{is_selecting, is_rejecting, row_after}
+use Rattle.meaning.proofs.Earliest.{certain_is, ruled_out_is}
+use Rattle.rows.specs.Steps.{is_decided}
 
 pub undecided-is :
     (t : Table) → WellFormed t → (i : ℕ) {w : List Event} {d : ℕ} → Prefix t w d → i ≤ positions w →
-    (isDecided (rowAfter t i w) ≡ false) ↔ Alive t i w
-undecided-is t wf i {w} r l = go (isSelecting (rowAfter t i w)) (isRejecting (rowAfter t i w)) (certain-is t wf i r l) (ruled-out-is t wf i r l)
+    (is_decided (row_after t i w) ≡ false) ↔ Alive t i w
+undecided-is t wf i {w} r l = go (is_selecting (row_after t i w)) (is_rejecting (row_after t i w)) (certain_is t wf i r l) (ruled_out_is t wf i r l)
   where
     go : (s f : Bool) → T s ↔ Certain t i w → T f ↔ RuledOut t i w → (s || f ≡ false) ↔ Alive t i w
     go true f c o = (λ e. absurd (true≢false e), λ a. absurd (a.0 (c.0 tt)))

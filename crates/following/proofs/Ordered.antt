@@ -17,30 +17,30 @@ use lib.Seq.{get_or-take, get_or-drop, get_or_at, get_or-append-add, take_at, dr
 use Rattle.meaning.proofs.Search.{decided}
 use Rattle.meaning.proofs.Rows.{AllBelow}
 use Rattle.meaning.proofs.Rows as below
-use Rattle.places.specs.Places.{positionAt, stateAt, levelOf, part_of, rowLength, row_at, rowsLength, label_at, labelLevel, workLength, rowsPart, labelsPart, row_of}
-use Rattle.places.specs.Memory.{Held, Memory, levelsWords, allWords, rows_of, rowsWords, openWords, labelsWords, workWords, heldIn, memoryIn, open_in, RowIn}
-use Rattle.places.proofs.Words.{padded-length, all-length as row-size}
+use Rattle.places.specs.Places.{position_at, state_at, level_of, part_of, row_length, row_at, rows_length, label_at, label_level, work_length, rows_part, labels_part, row_of}
+use Rattle.places.specs.Memory.{Held, Memory, levels_words, all_words, rows_of, rows_words, open_words, labels_words, work_words, held_in, memory_in, open_in, RowIn}
+use Rattle.places.proofs.Words.{padded_length, all_length as row_size}
 use Rattle.places.proofs.Sets.{below_length}
-use Rattle.places.proofs.Good.{AllGood, helds-first, all-length, later_rows, helds-back, rows-of}
+use Rattle.places.proofs.Good.{AllGood, helds_first, all_length, later_rows, helds_back, rows_of_lem}
 use Rattle.places.proofs.Good as good
-use Rattle.places.proofs.Labels.{open-words-length, labels_length, open-back}
+use Rattle.places.proofs.Labels.{open_words_length, labels_length, open_back}
 use Rattle.order.specs.declared.Shape.{Shape}
 use Rattle.order.specs.declared.Place.TheVariants.{Fine, At}
-use Rattle.order.specs.Order.{positionRight, cellRight, labelRight, labels_from, wordRight, firstFrom, firstFault}
+use Rattle.order.specs.Order.{position_right, cell_right, label_right, labels_from, word_right, first_from, first_fault}
 use Rattle.following.specs.Lists.{Rising}
 use Rattle.following.specs.Lists as lists
-use Rattle.following.specs.Following.{positionsOf}
+use Rattle.following.specs.Following.{positions_of}
 
 ---------------------------------------------------------------- tests, zeros and rising numbers
 
 -- Where every test passes, none is found that fails.
-all-fine : (right : ℕ → Bool) → ((i : ℕ) → right i ≡ true) → (n i : ℕ) → firstFrom right i n ≡ Fine
-all-fine right h n i =
+all_fine : (right : ℕ → Bool) → ((i : ℕ) → right i ≡ true) → (n i : ℕ) → first_from right i n ≡ Fine
+all_fine right h n i =
     ⊎_elim (λ g. g.0) (λ g. absurd (true≢false (sym (h g.place) ∙ g.first.fails))) (decided At Fine right n i)
 
-cond-true : (b : Bool) {x y : Bool} → (b ≡ true → x ≡ true) → (b ≡ false → y ≡ true) → cond b x y ≡ true
-cond-true true h g = h refl
-cond-true false h g = g refl
+cond_true : (b : Bool) {x y : Bool} → (b ≡ true → x ≡ true) → (b ≡ false → y ≡ true) → cond b x y ≡ true
+cond_true true h g = h refl
+cond_true false h g = g refl
 
 both : {a b : Bool} → a ≡ true → b ≡ true → a && b ≡ true
 both e f = rw (e, f)
@@ -54,46 +54,46 @@ past_words (x ∷ xs) k zero h = absurd (omega arith)
 past_words (x ∷ xs) k (suc i) h = past_words xs k i (omega arith)
 
 -- Each is above the one before it.
-rising-at : {high low : ℕ} {xs : List ℕ} → Rising high low xs → (r : ℕ) → r < length xs → (get_or (low ∷ xs) r 0 < get_or xs r 0) × (get_or xs r 0 ≤ high)
-rising-at lists.none r h = absurd (omega arith)
-rising-at (lists.over l m a) zero h = (l, m)
-rising-at (lists.over l m a) (suc r) h = rising-at a r (omega arith)
+rising_at : {high low : ℕ} {xs : List ℕ} → Rising high low xs → (r : ℕ) → r < length xs → (get_or (low ∷ xs) r 0 < get_or xs r 0) × (get_or xs r 0 ≤ high)
+rising_at lists.none r h = absurd (omega arith)
+rising_at (lists.over l m a) zero h = (l, m)
+rising_at (lists.over l m a) (suc r) h = rising_at a r (omega arith)
 
 ---------------------------------------------------------------- rows and labels
 
-module _ (n w d : ℕ) (short : w ≤ rowLength 40) (deep : rowLength d ≤ w) where
+module _ (n w d : ℕ) (short : w ≤ row_length 40) (deep : row_length d ≤ w) where
   -- Row r begins with its position.
-  position_at : (hs : List Held) (rest : List ℕ) → AllGood n d hs → (r : ℕ) → r < length hs → get_or (allWords w hs ++ rest) (r * w + positionAt) 0 ≡ get_or (positionsOf hs) r 0
-  position_at [] rest a r h = absurd (omega arith)
-  position_at (x ∷ hs) rest a zero h = rw (zero-mul w)
-  position_at (x ∷ hs) rest (good.over g a) (suc r) h =
+  position_at_lem : (hs : List Held) (rest : List ℕ) → AllGood n d hs → (r : ℕ) → r < length hs → get_or (all_words w hs ++ rest) (r * w + position_at) 0 ≡ get_or (positions_of hs) r 0
+  position_at_lem [] rest a r h = absurd (omega arith)
+  position_at_lem (x ∷ hs) rest a zero h = rw (zero-mul w)
+  position_at_lem (x ∷ hs) rest (good.over g a) (suc r) h =
       let e : suc r * w + 0 ≡ w + (r * w + 0) = omega (arith, suc-mul r w) in
-      ap (λ i. get_or (allWords w (x ∷ hs) ++ rest) i 0) e
-      ∙ sym (get_or-drop w (allWords w (x ∷ hs) ++ rest) (r * w + 0) 0)
+      ap (λ i. get_or (all_words w (x ∷ hs) ++ rest) i 0) e
+      ∙ sym (get_or-drop w (all_words w (x ∷ hs) ++ rest) (r * w + 0) 0)
       ∙ ap (λ xs. get_or xs (r * w + 0) 0) (later_rows n w d short deep x hs rest g)
-      ∙ position_at hs rest a r (omega arith)
+      ∙ position_at_lem hs rest a r (omega arith)
 
 -- A word of a level not in use is 0.
-level-zero : (n d c : ℕ) (row : List ℕ) → RowIn n d row → rowLength d ≤ c → get_or row c 0 ≡ 0
-level-zero n d c row r h =
-    let held : Held = heldIn d row in
-    let xs : List ℕ = held.position ∷ levelsWords (held.row.newest ∷ held.row.below) in
-    ap (λ ws. get_or ws c 0) r.same ∙ past_words xs (length row - length xs) c (omega (arith, row-size held, below_length row d))
+level_zero : (n d c : ℕ) (row : List ℕ) → RowIn n d row → row_length d ≤ c → get_or row c 0 ≡ 0
+level_zero n d c row r h =
+    let held : Held = held_in d row in
+    let xs : List ℕ = held.position ∷ levels_words (held.row.newest ∷ held.row.below) in
+    ap (λ ws. get_or ws c 0) r.same ∙ past_words xs (length row - length xs) c (omega (arith, row_size held, below_length row d))
 
 -- The word of the newest level is 1 above its label, whatever stands after, and that of every level is.
-newest-word : (a : ℕ) (o rest : List ℕ) → get_or (openWords (a ∷ o) ++ rest) (length o) 0 ≡ suc a
-newest-word a o rest =
-    ap (λ (ws : List ℕ). get_or ws (length o) 0) (append_assoc (openWords o) (suc a ∷ []) rest)
-    ∙ get_or_at (openWords o) (suc a) rest 0 (length o) (open-words-length o)
+newest_word_lem : (a : ℕ) (o rest : List ℕ) → get_or (open_words (a ∷ o) ++ rest) (length o) 0 ≡ suc a
+newest_word_lem a o rest =
+    ap (λ (ws : List ℕ). get_or ws (length o) 0) (append_assoc (open_words o) (suc a ∷ []) rest)
+    ∙ get_or_at (open_words o) (suc a) rest 0 (length o) (open_words_length o)
 
 label-word :
     (k : ℕ) (o rest : List ℕ) → AllBelow k o → (l : ℕ) → l < length o →
-    (0 < get_or (openWords o ++ rest) l 0) × (get_or (openWords o ++ rest) l 0 ≤ k)
+    (0 < get_or (open_words o ++ rest) l 0) × (get_or (open_words o ++ rest) l 0 ≤ k)
 label-word k [] rest below.none l h = absurd (omega arith)
 label-word k (a ∷ o) rest (below.more b all) l h =
     elim (ℕ_discrete l (length o)) [
-      | yes e ↦ rw (e, newest-word a o rest) (omega arith, omega arith)
-      | no e ↦ subst (λ (ws : List ℕ). (0 < get_or ws l 0) × (get_or ws l 0 ≤ k)) (sym (append_assoc (openWords o) (suc a ∷ []) rest))
+      | yes e ↦ rw (e, newest_word_lem a o rest) (omega arith, omega arith)
+      | no e ↦ subst (λ (ws : List ℕ). (0 < get_or ws l 0) × (get_or ws l 0 ≤ k)) (sym (append_assoc (open_words o) (suc a ∷ []) rest))
           (label-word k o (suc a ∷ rest) all l (omega arith))
     ]
 
@@ -109,128 +109,128 @@ same_memory h hs m e =
 -- Rows whose positions are 0 and then ps, which rise, and zeros after them, and then labels' words that are right: every
 -- word is right.
 module _ (s : Shape) (words ps : List ℕ) (rises : Rising s.positions 0 ps) (long : s.used ≤ length ps + 1)
-    (rows : (r : ℕ) → r < s.used → RowIn s.states s.depth (row_of (rowLength s.allowed) r words))
-    (first : (r : ℕ) → r < s.used → get_or words (row_at s.allowed r + positionAt) 0 ≡ get_or (0 ∷ ps) r 0)
+    (rows : (r : ℕ) → r < s.used → RowIn s.states s.depth (row_of (row_length s.allowed) r words))
+    (first : (r : ℕ) → r < s.used → get_or words (row_at s.allowed r + position_at) 0 ≡ get_or (0 ∷ ps) r 0)
     (rest : (i : ℕ) → row_at s.allowed s.used ≤ i → i < labels_from s → get_or words i 0 ≡ 0)
-    (labels : (l : ℕ) → labelRight s (labelLevel l) (get_or words (labels_from s + l) 0) ≡ true) where
-  right-position : (r : ℕ) → r < s.used → positionRight s words r (get_or words (row_at s.allowed r + positionAt) 0) ≡ true
-  right-position zero h = eq-eqb _ 0 (first 0 h)
-  right-position (suc r) h =
-      let a = rising-at rises r (omega arith) in
+    (labels : (l : ℕ) → label_right s (label_level l) (get_or words (labels_from s + l) 0) ≡ true) where
+  right_position : (r : ℕ) → r < s.used → position_right s words r (get_or words (row_at s.allowed r + position_at) 0) ≡ true
+  right_position zero h = eq-eqb _ 0 (first 0 h)
+  right_position (suc r) h =
+      let a = rising_at rises r (omega arith) in
       rw (first r (omega arith), first (suc r) h) (both (lt-ltb _ _ a.0) (le-leb _ _ a.1))
 
-  row_word : (r c : ℕ) → c < rowLength s.allowed → get_or (row_of (rowLength s.allowed) r words) c 0 ≡ get_or words (row_at s.allowed r + c) 0
+  row_word : (r c : ℕ) → c < row_length s.allowed → get_or (row_of (row_length s.allowed) r words) c 0 ≡ get_or words (row_at s.allowed r + c) 0
   row_word r c h =
-      get_or-take (rowLength s.allowed) (drop (row_at s.allowed r) words) c 0 h ∙ get_or-drop (row_at s.allowed r) words c 0
+      get_or-take (row_length s.allowed) (drop (row_at s.allowed r) words) c 0 h ∙ get_or-drop (row_at s.allowed r) words c 0
 
-  right-cell : (r c : ℕ) → c < rowLength s.allowed → row_at s.allowed r + c < labels_from s → cellRight s words r c ≡ true
-  right-cell r c h inside =
-      cond-true (leb s.used r)
-      (λ e. eq-eqb _ 0 (rest (row_at s.allowed r + c) (omega (arith, mul-le-mul_right (rowLength s.allowed) (leb-true s.used r e))) inside))
+  right_cell : (r c : ℕ) → c < row_length s.allowed → row_at s.allowed r + c < labels_from s → cell_right s words r c ≡ true
+  right_cell r c h inside =
+      cond_true (leb s.used r)
+      (λ e. eq-eqb _ 0 (rest (row_at s.allowed r + c) (omega (arith, mul-le-mul_right (row_length s.allowed) (leb-true s.used r e))) inside))
       (λ e.
       let row = rows r (leb-false _ _ e) in
-      cond-true (eqb c positionAt) (λ f. rw (eqb-true c 0 f) (right-position r (leb-false _ _ e)))
+      cond_true (eqb c position_at) (λ f. rw (eqb-true c 0 f) (right_position r (leb-false _ _ e)))
       (λ f.
-      cond-true (ltb s.depth (levelOf c)) (λ g. eq-eqb _ 0 (sym (row_word r c h) ∙ level-zero _ _ c _ row (omega (arith, ltb-true))))
+      cond_true (ltb s.depth (level_of c)) (λ g. eq-eqb _ 0 (sym (row_word r c h) ∙ level_zero _ _ c _ row (omega (arith, ltb-true))))
       (λ g.
-      cond-true (eqb (part_of c) 0)
+      cond_true (eqb (part_of c) 0)
       (λ i.
-      let at-state : stateAt (levelOf c) ≡ c = omega (arith, eqb-true, eqb-false) in
-      lt-ltb _ _ (rw (at-state, row_word r c h) at (row.states (levelOf c) (ltb-false _ _ g))))
+      let at-state : state_at (level_of c) ≡ c = omega (arith, eqb-true, eqb-false) in
+      lt-ltb _ _ (rw (at-state, row_word r c h) at (row.states (level_of c) (ltb-false _ _ g))))
       (λ i. refl))))
 
-  right-word : (i : ℕ) → wordRight s words i ≡ true
-  right-word i =
-      let w : ℕ = rowLength s.allowed in
-      cond-true (ltb i (labels_from s))
-      (λ e. right-cell (i / w) (i % w) (mod-lt i (omega arith)) (rw (div-add-mod' i w) (ltb-true i (labels_from s) e)))
+  right_word : (i : ℕ) → word_right s words i ≡ true
+  right_word i =
+      let w : ℕ = row_length s.allowed in
+      cond_true (ltb i (labels_from s))
+      (λ e. right_cell (i / w) (i % w) (mod-lt i (omega arith)) (rw (div-add-mod' i w) (ltb-true i (labels_from s) e)))
       (λ e.
       let at : labels_from s + (i - labels_from s) ≡ i = omega (arith, ltb-false i (labels_from s) e) in
-      ap (λ (j : ℕ). labelRight s (labelLevel (i - labels_from s)) (get_or words j 0)) (sym at) ∙ labels (i - labels_from s))
+      ap (λ (j : ℕ). label_right s (label_level (i - labels_from s)) (get_or words j 0)) (sym at) ∙ labels (i - labels_from s))
 
-  words-fine : firstFault s words ≡ Fine
-  unfolding firstFault
-  words-fine = all-fine (wordRight s words) right-word (length words) 0
+  words_fine : first_fault s words ≡ Fine
+  unfolding first_fault
+  words_fine = all_fine (word_right s words) right_word (length words) 0
 
 ---------------------------------------------------------------- a whole memory
 
 module _ (n rows depth d : ℕ) (m : Memory) (small : depth ≤ 40) (deep : d ≤ depth) (fits : length m.alive ≤ rows) (all : AllGood n d (rows_of m)) where
-  used-length : length (allWords (rowLength depth) (rows_of m)) ≡ row_at depth (length m.alive + 1)
-  used-length = rw (add-one (length m.alive)) (all-length n (rowLength depth) d (omega arith) (omega arith) (rows_of m) all)
+  used_length : length (all_words (row_length depth) (rows_of m)) ≡ row_at depth (length m.alive + 1)
+  used_length = rw (add-one (length m.alive)) (all_length n (row_length depth) d (omega arith) (omega arith) (rows_of m) all)
 
-  rows-length : length (rowsWords rows depth m) ≡ rowsLength rows depth
-  rows-length =
-      padded-length (rowsLength rows depth) (allWords (rowLength depth) (rows_of m)) (rw used-length (mul-le-mul_right (rowLength depth) (omega arith)))
+  rows_length_lem : length (rows_words rows depth m) ≡ rows_length rows depth
+  rows_length_lem =
+      padded_length (rows_length rows depth) (all_words (row_length depth) (rows_of m)) (rw used_length (mul-le-mul_right (row_length depth) (omega arith)))
 
-  rows_back : memoryIn depth d (length m.alive) (rowsWords rows depth m) ≡ m
+  rows_back : memory_in depth d (length m.alive) (rows_words rows depth m) ≡ m
   rows_back =
-      let w = rowLength depth in
-      let rest : List ℕ = replicate (rowsLength rows depth - length (allWords w (rows_of m))) 0 in
+      let w = row_length depth in
+      let rest : List ℕ = replicate (rows_length rows depth - length (all_words w (rows_of m))) 0 in
       same_memory _ _ m
-      (sym (helds-first w d (length m.alive) (rowsWords rows depth m)) ∙ helds-back n w d (omega arith) (omega arith) (rows_of m) rest all)
+      (sym (helds_first w d (length m.alive) (rows_words rows depth m)) ∙ helds_back n w d (omega arith) (omega arith) (rows_of m) rest all)
 
   module _ (o : List ℕ) where
     -- As long as work memory is.
-    pub work-length : length o ≤ depth → length (workWords rows depth m o) ≡ workLength rows depth
-    work-length l = length-append (rowsWords rows depth m) (labelsWords depth o) ∙ omega (arith, rows-length, labels_length depth o l)
+    pub work_length_lem : length o ≤ depth → length (work_words rows depth m o) ≡ work_length rows depth
+    work_length_lem l = length-append (rows_words rows depth m) (labels_words depth o) ∙ omega (arith, rows_length_lem, labels_length depth o l)
 
     -- The words of a memory and of labels stand for them.
-    pub memory-back : memoryIn depth d (length m.alive) (rowsPart rows depth (workWords rows depth m o)) ≡ m
-    memory-back =
-        ap (memoryIn depth d (length m.alive)) (take_at (rowsWords rows depth m) (labelsWords depth o) (rowsLength rows depth) rows-length)
+    pub memory_back : memory_in depth d (length m.alive) (rows_part rows depth (work_words rows depth m o)) ≡ m
+    memory_back =
+        ap (memory_in depth d (length m.alive)) (take_at (rows_words rows depth m) (labels_words depth o) (rows_length rows depth) rows_length_lem)
         ∙ rows_back
 
-    labels-then : labelsPart rows depth (workWords rows depth m o) ≡ labelsWords depth o
-    labels-then = drop_at (rowsWords rows depth m) (labelsWords depth o) (rowsLength rows depth) rows-length
+    labels_then : labels_part rows depth (work_words rows depth m o) ≡ labels_words depth o
+    labels_then = drop_at (rows_words rows depth m) (labels_words depth o) (rows_length rows depth) rows_length_lem
 
-    pub labels-back : open_in (labelsPart rows depth (workWords rows depth m o)) (length o) ≡ o
-    labels-back = ap (λ (ws : List ℕ). open_in ws (length o)) labels-then ∙ open-back o (replicate (depth - length (openWords o)) 0)
+    pub labels_back : open_in (labels_part rows depth (work_words rows depth m o)) (length o) ≡ o
+    labels_back = ap (λ (ws : List ℕ). open_in ws (length o)) labels_then ∙ open_back o (replicate (depth - length (open_words o)) 0)
 
   -- The newest level's word.
-  pub newest-back : (a : ℕ) (o : List ℕ) → get_or (labelsPart rows depth (workWords rows depth m (a ∷ o))) (label_at (length (a ∷ o))) 0 ≡ suc a
-  newest-back a o =
+  pub newest_back : (a : ℕ) (o : List ℕ) → get_or (labels_part rows depth (work_words rows depth m (a ∷ o))) (label_at (length (a ∷ o))) 0 ≡ suc a
+  newest_back a o =
       let at : label_at (length (a ∷ o)) ≡ length o = omega arith in
-      ap (λ (ws : List ℕ). get_or ws (label_at (length (a ∷ o))) 0) (labels-then (a ∷ o))
-      ∙ ap (λ (i : ℕ). get_or (labelsWords depth (a ∷ o)) i 0) at
-      ∙ newest-word a o (replicate (depth - length (openWords (a ∷ o))) 0)
+      ap (λ (ws : List ℕ). get_or ws (label_at (length (a ∷ o))) 0) (labels_then (a ∷ o))
+      ∙ ap (λ (i : ℕ). get_or (labels_words depth (a ∷ o)) i 0) at
+      ∙ newest_word_lem a o (replicate (depth - length (open_words (a ∷ o))) 0)
 
 -- The words of a memory whose states are states of the table and whose positions rise, and of labels of the table, as many as
 -- there are levels, are in order.
 pub in_order : (n rows depth d p k : ℕ) (m : Memory) (o : List ℕ) → depth ≤ 40 → d ≤ depth → length m.alive ≤ rows → AllGood n d (rows_of m) →
-    Rising p 0 (positionsOf m.alive) → length o ≡ d → AllBelow k o →
-    firstFault (record { rows = rows + 1; allowed = depth; used = length m.alive + 1; depth = d; states = n; positions = p; labels = k }) (workWords rows depth m o) ≡ Fine
+    Rising p 0 (positions_of m.alive) → length o ≡ d → AllBelow k o →
+    first_fault (record { rows = rows + 1; allowed = depth; used = length m.alive + 1; depth = d; states = n; positions = p; labels = k }) (work_words rows depth m o) ≡ Fine
 in_order n rows depth d p k m o small deep fits all rises open-are labelled =
-    let w : ℕ = rowLength depth in
-    let xs : List ℕ = allWords w (rows_of m) in
-    let zeros : List ℕ = replicate (rowsLength rows depth - length xs) 0 in
-    let front : List ℕ = rowsWords rows depth m in
-    let after : List ℕ = labelsWords depth o in
-    let long : length front ≡ rowsLength rows depth = rows-length n rows depth d m small deep fits all in
-    let rows_then : workWords rows depth m o ≡ xs ++ (zeros ++ after) = append_assoc xs zeros after in
+    let w : ℕ = row_length depth in
+    let xs : List ℕ = all_words w (rows_of m) in
+    let zeros : List ℕ = replicate (rows_length rows depth - length xs) 0 in
+    let front : List ℕ = rows_words rows depth m in
+    let after : List ℕ = labels_words depth o in
+    let long : length front ≡ rows_length rows depth = rows_length_lem n rows depth d m small deep fits all in
+    let rows_then : work_words rows depth m o ≡ xs ++ (zeros ++ after) = append_assoc xs zeros after in
     let s : Shape = record { rows = rows + 1; allowed = depth; used = length m.alive + 1; depth = d; states = n; positions = p; labels = k } in
-    words-fine s (workWords rows depth m o) (positionsOf m.alive) rises (omega (arith, length-map m.alive (λ (h : Held). h.position)))
+    words_fine s (work_words rows depth m o) (positions_of m.alive) rises (omega (arith, length-map m.alive (λ (h : Held). h.position)))
     (λ r h.
     subst (λ (ws : List ℕ). RowIn n d (row_of w r ws)) (sym rows_then)
-    ((rows-of n w d (omega arith) (omega arith) (rows_of m) (zeros ++ after) all).each r (omega arith)))
+    ((rows_of_lem n w d (omega arith) (omega arith) (rows_of m) (zeros ++ after) all).each r (omega arith)))
     (λ r h.
-    ap (λ (ws : List ℕ). get_or ws (row_at depth r + positionAt) 0) rows_then
-    ∙ position_at n w d (omega arith) (omega arith) (rows_of m) (zeros ++ after) all r (omega arith))
+    ap (λ (ws : List ℕ). get_or ws (row_at depth r + position_at) 0) rows_then
+    ∙ position_at_lem n w d (omega arith) (omega arith) (rows_of m) (zeros ++ after) all r (omega arith))
     (λ i h l.
     get_or-append front after 0 i (omega (arith, long))
-    ∙ past_words xs (rowsLength rows depth - length xs) i (omega (arith, used-length n rows depth d m small deep fits all)))
+    ∙ past_words xs (rows_length rows depth - length xs) i (omega (arith, used_length n rows depth d m small deep fits all)))
     (λ l.
-    ap (labelRight s (labelLevel l)) (ap (λ (j : ℕ). get_or (front ++ after) (j + l) 0) (sym long) ∙ get_or-append-add front after l 0)
-    ∙ cond-true (leb (labelLevel l) d)
+    ap (label_right s (label_level l)) (ap (λ (j : ℕ). get_or (front ++ after) (j + l) 0) (sym long) ∙ get_or-append-add front after l 0)
+    ∙ cond_true (leb (label_level l) d)
     (λ e.
-    let x = label-word k o (replicate (depth - length (openWords o)) 0) labelled l (omega (arith, leb-true (labelLevel l) d e)) in
+    let x = label-word k o (replicate (depth - length (open_words o)) 0) labelled l (omega (arith, leb-true (label_level l) d e)) in
     both (lt-ltb _ _ x.0) (le-leb _ _ x.1))
-    (λ e. eq-eqb _ 0 (past_words (openWords o) (depth - length (openWords o)) l (omega (arith, leb-false (labelLevel l) d e, open-words-length o)))))
+    (λ e. eq-eqb _ 0 (past_words (open_words o) (depth - length (open_words o)) l (omega (arith, leb-false (label_level l) d e, open_words_length o)))))
 
 -- And so are zeros, where no row is in use and no level is open.
-pub zeros-in-order : (n rows depth p k i : ℕ) →
-    firstFault (record { rows = rows + 1; allowed = depth; used = 0; depth = 0; states = n; positions = p; labels = k }) (replicate i 0) ≡ Fine
-zeros-in-order n rows depth p k i =
+pub zeros_in_order : (n rows depth p k i : ℕ) →
+    first_fault (record { rows = rows + 1; allowed = depth; used = 0; depth = 0; states = n; positions = p; labels = k }) (replicate i 0) ≡ Fine
+zeros_in_order n rows depth p k i =
     let zeros : List ℕ = replicate i 0 in
     let zero-at : (j : ℕ) → get_or zeros j 0 ≡ 0 = λ j. past_words [] i j (omega arith) in
-    words-fine _ zeros [] lists.none (omega arith) (λ r h. absurd (omega arith)) (λ r h. absurd (omega arith)) (λ j h l. zero-at j)
-    (λ l. cond-true (leb (labelLevel l) 0) (λ e. absurd (omega (arith, leb-true (labelLevel l) 0 e))) (λ e. eq-eqb _ 0 (zero-at _)))
+    words_fine _ zeros [] lists.none (omega arith) (λ r h. absurd (omega arith)) (λ r h. absurd (omega arith)) (λ j h l. zero-at j)
+    (λ l. cond_true (leb (label_level l) 0) (λ e. absurd (omega (arith, leb-true (label_level l) 0 e))) (λ e. eq-eqb _ 0 (zero-at _)))

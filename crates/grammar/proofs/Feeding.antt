@@ -12,14 +12,14 @@ use Rattle.grammar.specs.declared.Fault.{Fault}
 use Rattle.grammar.specs.declared.Fault.TheVariants as fault
 use Rattle.grammar.specs.declared.Stop.{Stop}
 use Rattle.grammar.specs.declared.Stop.TheVariants.{Not, At}
-use Rattle.grammar.specs.Feeding.{Step, goesOn, stopped, stepped, Fed, after, feed, Roomed, roomed}
+use Rattle.grammar.specs.Feeding.{Step, goes_on, stopped, stepped, Fed, after, feed, Roomed, roomed}
 
 -- What one piece and then the next come to: the next counts only where the first went on.
 abbrev pub then : {A : Type 0} → (A → ℕ → Step A) → Fed A → List ℕ → Fed A
-then step f s = cond (goesOn f.stops) (after f.gives f.taken (feed step f.state s)) f
+then step f s = cond (goes_on f.stops) (after f.gives f.taken (feed step f.state s)) f
 
-pub after-after : {A : Type 0} (u v : List ℕ) (n m : ℕ) (f : Fed A) → after u n (after v m f) ≡ after (u ++ v) (n + m) f
-after-after u v n m f =
+pub after_after : {A : Type 0} (u v : List ℕ) (n m : ℕ) (f : Fed A) → after u n (after v m f) ≡ after (u ++ v) (n + m) f
+after_after u v n m f =
     rw (append_assoc u v f.gives, ← assoc)
   where
     assoc : n + (m + f.taken) ≡ n + m + f.taken
@@ -32,19 +32,19 @@ after_none f = rw zeroth
     zeroth = omega arith
 
 -- Bytes fed in two pieces come to the same as at once.
-pub feed-pieces : {A : Type 0} (step : A → ℕ → Step A) (a : A) (s t : List ℕ) → feed step a (s ++ t) ≡ then step (feed step a s) t
-feed-pieces step a [] t = sym (after_none (feed step a t))
-feed-pieces step a (b ∷ s) t = go (goesOn (step a b).stops) refl (feed-pieces step (step a b).next s t)
+pub feed_pieces : {A : Type 0} (step : A → ℕ → Step A) (a : A) (s t : List ℕ) → feed step a (s ++ t) ≡ then step (feed step a s) t
+feed_pieces step a [] t = sym (after_none (feed step a t))
+feed_pieces step a (b ∷ s) t = go (goes_on (step a b).stops) refl (feed_pieces step (step a b).next s t)
   where
-    later : (x : Bool) → goesOn (feed step (step a b).next s).stops ≡ x
+    later : (x : Bool) → goes_on (feed step (step a b).next s).stops ≡ x
         → after (step a b).gives 1 (then step (feed step (step a b).next s) t)
         ≡ then step (after (step a b).gives 1 (feed step (step a b).next s)) t
-    later true e = rw e (after-after (step a b).gives (feed step (step a b).next s).gives 1 (feed step (step a b).next s).taken (feed step (feed step (step a b).next s).state t))
+    later true e = rw e (after_after (step a b).gives (feed step (step a b).next s).gives 1 (feed step (step a b).next s).taken (feed step (feed step (step a b).next s).state t))
     later false e = rw e
 
-    go : (x : Bool) → goesOn (step a b).stops ≡ x → feed step (step a b).next (s ++ t) ≡ then step (feed step (step a b).next s) t
+    go : (x : Bool) → goes_on (step a b).stops ≡ x → feed step (step a b).next (s ++ t) ≡ then step (feed step (step a b).next s) t
         → feed step a (b ∷ (s ++ t)) ≡ then step (feed step a (b ∷ s)) t
-    go true e ih = rw (e, ih) (later (goesOn (feed step (step a b).next s).stops) refl)
+    go true e ih = rw (e, ih) (later (goes_on (feed step (step a b).next s).stops) refl)
     go false e ih = rw (e, e)
 
 -- n bytes that were all taken.
@@ -62,28 +62,28 @@ pub one_more : (n : ℕ) → 1 + n ≡ suc n
 one_more n = omega arith
 
 module _ {A : Type 0} (step : A → ℕ → Step A) where
-  pub feed-on : (a a' : A) (out : List ℕ) (b : ℕ) (s : List ℕ) → step a b ≡ stepped a' out
+  pub feed_on : (a a' : A) (out : List ℕ) (b : ℕ) (s : List ℕ) → step a b ≡ stepped a' out
       → feed step a (b ∷ s) ≡ after out 1 (feed step a' s)
-  feed-on a a' out b s e = rw e
+  feed_on a a' out b s e = rw e
 
-  pub feed-stop : (a : A) (k : Fault) (b : ℕ) (s : List ℕ) → (step a b).stops ≡ At k → feed step a (b ∷ s) ≡ broke [] 0 a k
-  feed-stop a k b s e = rw e
+  pub feed_stop : (a : A) (k : Fault) (b : ℕ) (s : List ℕ) → (step a b).stops ≡ At k → feed step a (b ∷ s) ≡ broke [] 0 a k
+  feed_stop a k b s e = rw e
 
   -- After a piece that was taken.
-  pub feed-then : (a a' : A) (out : List ℕ) (n : ℕ) (s t : List ℕ) → feed step a s ≡ went out n a'
+  pub feed_then : (a a' : A) (out : List ℕ) (n : ℕ) (s t : List ℕ) → feed step a s ≡ went out n a'
       → feed step a (s ++ t) ≡ after out n (feed step a' t)
-  feed-then a a' out n s t e = rw (feed-pieces step a s t, e)
+  feed_then a a' out n s t e = rw (feed_pieces step a s t, e)
 
   -- Two pieces that were taken.
   pub went_then : (a a' a'' : A) (out out' : List ℕ) (n m : ℕ) (s t : List ℕ)
       → feed step a s ≡ went out n a' → feed step a' t ≡ went out' m a''
       → feed step a (s ++ t) ≡ went (out ++ out') (n + m) a''
-  went_then a a' a'' out out' n m s t e f = rw (feed-then a a' out n s t e, f)
+  went_then a a' a'' out out' n m s t e f = rw (feed_then a a' out n s t e, f)
 
   -- A piece that was taken, and then a byte at fault.
-  pub feed-break : (a a' : A) (out : List ℕ) (n : ℕ) (k : Fault) (s : List ℕ) (b : ℕ) (t : List ℕ)
+  pub feed_break : (a a' : A) (out : List ℕ) (n : ℕ) (k : Fault) (s : List ℕ) (b : ℕ) (t : List ℕ)
       → feed step a s ≡ went out n a' → (step a' b).stops ≡ At k → feed step a (s ++ (b ∷ t)) ≡ broke out n a' k
-  feed-break a a' out n k s b t e h = rw (feed-then a a' out n s (b ∷ t) e, feed-stop a' k b t h, append-nil out, add-zero n)
+  feed_break a a' out n k s b t e h = rw (feed_then a a' out n s (b ∷ t) e, feed_stop a' k b t h, append-nil out, add-zero n)
 
 -- Where bytes broke off: at the byte of this place.
 pub record Broken {A : Type 0} (step : A → ℕ → Step A) (a : A) (s : List ℕ) (k : Fault) : Type 0 where
@@ -97,10 +97,10 @@ pub record Broken {A : Type 0} (step : A → ℕ → Step A) (a : A) (s : List �
 
 module _ {A : Type 0} (step : A → ℕ → Step A) where
   -- Where no byte is at fault, each is taken.
-  pub all-taken : (a : A) (s : List ℕ) → (feed step a s).stops ≡ Not
+  pub all_taken : (a : A) (s : List ℕ) → (feed step a s).stops ≡ Not
       → feed step a s ≡ went (feed step a s).gives (length s) (feed step a s).state
-  all-taken a [] e = refl
-  all-taken a (b ∷ s) e = go (step a b).stops refl (all-taken (step a b).next s)
+  all_taken a [] e = refl
+  all_taken a (b ∷ s) e = go (step a b).stops refl (all_taken (step a b).next s)
     where
       go : (x : Stop) → (step a b).stops ≡ x
           → ((feed step (step a b).next s).stops ≡ Not
@@ -110,8 +110,8 @@ module _ {A : Type 0} (step : A → ℕ → Step A) where
       go Not h ih = rw (h, ih (rw h at e), one_more (length s))
       go (At k) h ih = not_at k (sym (rw h at e))
 
-  broken-later : (a : A) (b : ℕ) (s : List ℕ) (k : Fault) → (step a b).stops ≡ Not → Broken step (step a b).next s k → Broken step a (b ∷ s) k
-  broken-later a b s k h i =
+  broken_later : (a : A) (b : ℕ) (s : List ℕ) (k : Fault) → (step a b).stops ≡ Not → Broken step (step a b).next s k → Broken step a (b ∷ s) k
+  broken_later a b s k h i =
       record {
         before = b ∷ i.before;
         byte = i.byte;
@@ -122,50 +122,50 @@ module _ {A : Type 0} (step : A → ℕ → Step A) where
         place = rw (h, i.place, one_more (length i.before));
       }
 
-  pub where-broken : (a : A) (s : List ℕ) (k : Fault) → (feed step a s).stops ≡ At k → Broken step a s k
-  where-broken a [] k e = not_at k e
-  where-broken a (b ∷ s) k e = go (step a b).stops refl (where-broken (step a b).next s k)
+  pub where_broken : (a : A) (s : List ℕ) (k : Fault) → (feed step a s).stops ≡ At k → Broken step a s k
+  where_broken a [] k e = not_at k e
+  where_broken a (b ∷ s) k e = go (step a b).stops refl (where_broken (step a b).next s k)
     where
       go : (x : Stop) → (step a b).stops ≡ x → ((feed step (step a b).next s).stops ≡ At k → Broken step (step a b).next s k)
           → Broken step a (b ∷ s) k
-      go Not h ih = broken-later a b s k h (ih (rw h at e))
+      go Not h ih = broken_later a b s k h (ih (rw h at e))
       go (At j) h ih =
           record { before = []; byte = b; rest = s; parts = refl; on = rw h; at = rw h (h ∙ (rw h at e)); place = rw h }
 
 -- Room
 
 -- What bytes come to, where there is room for r, and for what they give.
-abbrev pub withRoom : {A : Type 0} → ℕ → Fed A → Fed (Roomed A)
-withRoom r f =
+abbrev pub with_room : {A : Type 0} → ℕ → Fed A → Fed (Roomed A)
+with_room r f =
     record { gives = f.gives; taken = f.taken; state = record { inner = f.state; left = r - length f.gives }; stops = f.stops }
 
 module _ {A : Type 0} (step : A → ℕ → Step A) (a : A) (r b : ℕ) where
   -- A byte, where there is room for what it gives, where there is not, and where it is at fault itself.
-  pub roomed-fits : (step a b).stops ≡ Not → length (step a b).gives ≤ r
+  pub roomed_fits : (step a b).stops ≡ Not → length (step a b).gives ≤ r
       → roomed step (record { inner = a; left = r }) b
       ≡ stepped (record { inner = (step a b).next; left = r - length (step a b).gives }) (step a b).gives
-  roomed-fits h l = rw (h, le-ltb r (length (step a b).gives) l)
+  roomed_fits h l = rw (h, le-ltb r (length (step a b).gives) l)
 
-  pub roomed-short : (step a b).stops ≡ Not → r < length (step a b).gives
+  pub roomed_short : (step a b).stops ≡ Not → r < length (step a b).gives
       → roomed step (record { inner = a; left = r }) b ≡ stopped (record { inner = a; left = r }) fault.Short
-  roomed-short h l = rw (h, lt-ltb r (length (step a b).gives) l)
+  roomed_short h l = rw (h, lt-ltb r (length (step a b).gives) l)
 
-  pub roomed-stop : (k : Fault) → (step a b).stops ≡ At k → (roomed step (record { inner = a; left = r }) b).stops ≡ At k
-  roomed-stop k h = rw h
+  pub roomed_stop : (k : Fault) → (step a b).stops ≡ At k → (roomed step (record { inner = a; left = r }) b).stops ≡ At k
+  roomed_stop k h = rw h
 
 -- Where all fits, what comes after the first part fits in the room that the first part leaves.
-rest-fits : (r : ℕ) (u v : List ℕ) → length (u ++ v) ≤ r → length v ≤ r - length u
-rest-fits r u v l = let h : length u + length v ≤ r = rw length-append at l in omega arith
+rest_fits : (r : ℕ) (u v : List ℕ) → length (u ++ v) ≤ r → length v ≤ r - length u
+rest_fits r u v l = let h : length u + length v ≤ r = rw length-append at l in omega arith
 
-pub none-less : (r : ℕ) → r - 0 ≡ r
-none-less r = omega arith
+pub none_less : (r : ℕ) → r - 0 ≡ r
+none_less r = omega arith
 
 module _ {A : Type 0} (step : A → ℕ → Step A) where
   -- Where there is room for all that is given, room changes nothing.
-  pub room-enough : (a : A) (r : ℕ) (s : List ℕ) → length (feed step a s).gives ≤ r
-      → feed (roomed step) (record { inner = a; left = r }) s ≡ withRoom r (feed step a s)
-  room-enough a r [] l = rw (none-less r)
-  room-enough a r (b ∷ s) l = go (step a b).stops refl (room-enough (step a b).next (r - length (step a b).gives) s)
+  pub room_enough : (a : A) (r : ℕ) (s : List ℕ) → length (feed step a s).gives ≤ r
+      → feed (roomed step) (record { inner = a; left = r }) s ≡ with_room r (feed step a s)
+  room_enough a r [] l = rw (none_less r)
+  room_enough a r (b ∷ s) l = go (step a b).stops refl (room_enough (step a b).next (r - length (step a b).gives) s)
     where
       first : length ((step a b).gives ++ (feed step (step a b).next s).gives) ≤ r → length (step a b).gives ≤ r
       first m = let h : length (step a b).gives + length (feed step (step a b).next s).gives ≤ r = rw length-append at m in omega arith
@@ -177,18 +177,18 @@ module _ {A : Type 0} (step : A → ℕ → Step A) where
       go : (x : Stop) → (step a b).stops ≡ x
           → (length (feed step (step a b).next s).gives ≤ r - length (step a b).gives
           → feed (roomed step) (record { inner = (step a b).next; left = r - length (step a b).gives }) s
-          ≡ withRoom (r - length (step a b).gives) (feed step (step a b).next s))
-          → feed (roomed step) (record { inner = a; left = r }) (b ∷ s) ≡ withRoom r (feed step a (b ∷ s))
+          ≡ with_room (r - length (step a b).gives) (feed step (step a b).next s))
+          → feed (roomed step) (record { inner = a; left = r }) (b ∷ s) ≡ with_room r (feed step a (b ∷ s))
       go Not h ih =
           let m : length ((step a b).gives ++ (feed step (step a b).next s).gives) ≤ r = rw h at l in
-          rw (roomed-fits step a r b h (first m), h, ih (rest-fits r (step a b).gives (feed step (step a b).next s).gives m), rest)
-      go (At k) h ih = feed-stop (roomed step) (record { inner = a; left = r }) k b s (roomed-stop step a r b k h) ∙ rw (h, none-less r)
+          rw (roomed_fits step a r b h (first m), h, ih (rest_fits r (step a b).gives (feed step (step a b).next s).gives m), rest)
+      go (At k) h ih = feed_stop (roomed step) (record { inner = a; left = r }) k b s (roomed_stop step a r b k h) ∙ rw (h, none_less r)
 
   -- Bytes that are all taken with room are taken without, and what they give fits.
-  pub room-inner : (a : A) (r : ℕ) (s : List ℕ) → (feed (roomed step) (record { inner = a; left = r }) s).stops ≡ Not
+  pub room_inner : (a : A) (r : ℕ) (s : List ℕ) → (feed (roomed step) (record { inner = a; left = r }) s).stops ≡ Not
       → ((feed step a s).stops ≡ Not) × (length (feed step a s).gives ≤ r)
-  room-inner a r [] e = (refl, omega arith)
-  room-inner a r (b ∷ s) e = go (step a b).stops refl (room-inner (step a b).next (r - length (step a b).gives) s)
+  room_inner a r [] e = (refl, omega arith)
+  room_inner a r (b ∷ s) e = go (step a b).stops refl (room_inner (step a b).next (r - length (step a b).gives) s)
     where
       go : (x : Stop) → (step a b).stops ≡ x
           → ((feed (roomed step) (record { inner = (step a b).next; left = r - length (step a b).gives }) s).stops ≡ Not
@@ -198,9 +198,9 @@ module _ {A : Type 0} (step : A → ℕ → Step A) where
         where
           fits : Dec (length (step a b).gives ≤ r) → ((feed step a (b ∷ s)).stops ≡ Not) × (length (feed step a (b ∷ s)).gives ≤ r)
           fits (yes l) =
-              let i = ih (rw (roomed-fits step a r b h l) at e) in
+              let i = ih (rw (roomed_fits step a r b h l) at e) in
               rw h (i.0, rw length-append (omega (arith, i.1)))
-          fits (no l) = not_at fault.Short (sym (rw (roomed-short step a r b h (omega arith)) at e))
+          fits (no l) = not_at fault.Short (sym (rw (roomed_short step a r b h (omega arith)) at e))
       go (At k) h ih = not_at k (sym (rw h at e))
 
 -- Pieces, one after another, as one list.
@@ -209,15 +209,15 @@ joined [] = []
 joined (s ∷ ss) = s ++ joined ss
 
 -- What pieces come to that are fed one after another.
-abbrev pub feed-all : {A : Type 0} → (A → ℕ → Step A) → Fed A → List (List ℕ) → Fed A
-feed-all step f [] = f
-feed-all step f (s ∷ ss) = feed-all step (then step f s) ss
+abbrev pub feed_all : {A : Type 0} → (A → ℕ → Step A) → Fed A → List (List ℕ) → Fed A
+feed_all step f [] = f
+feed_all step f (s ∷ ss) = feed_all step (then step f s) ss
 
 -- Bytes fed in any pieces come to the same as at once.
 pub in_pieces : {A : Type 0} (step : A → ℕ → Step A) (a : A) (u : List ℕ) (ss : List (List ℕ))
-    → feed-all step (feed step a u) ss ≡ feed step a (u ++ joined ss)
+    → feed_all step (feed step a u) ss ≡ feed step a (u ++ joined ss)
 in_pieces step a u [] = ap (λ (v : List ℕ). feed step a v) (sym (append-nil u))
 in_pieces step a u (s ∷ ss) =
-    ap (λ (f : Fed _). feed-all step f ss) (sym (feed-pieces step a u s))
+    ap (λ (f : Fed _). feed_all step f ss) (sym (feed_pieces step a u s))
     ∙ in_pieces step a (u ++ s) ss
     ∙ ap (λ (v : List ℕ). feed step a v) (append_assoc u s (joined ss))

@@ -7,25 +7,25 @@ use native.Mathlib.Omega.{arith}
 use lib.Dec.{eqb, ltb}
 use lib.ListN.{length}
 use borrow.Author.Tests.{lt-ltb, le-ltb, ne_eqb, ltb-true, ltb-false, eqb-true, eqb-false}
-use Rattle.meaning.specs.Streams.{openAfter}
+use Rattle.meaning.specs.Streams.{open_after}
 use Rattle.meaning.proofs.Rows.{AllBelow}
 use Rattle.answers.specs.declared.Event.{Event}
 use Rattle.answers.specs.declared.Event.TheVariants as event
-use Rattle.answers.specs.Bytes.{meaningOf, eventOf}
-use Rattle.grammar.specs.Streams.{labelledBy, labelled}
+use Rattle.answers.specs.Bytes.{meaning_of, event_of}
+use Rattle.grammar.specs.Streams.{labelled_by, labelled}
 
 -- The bytes of labels below 32.
-pub byte-opens : (a : ℕ) → a < 32 → meaningOf a ≡ event.Open a
-byte-opens a h = rw (lt-ltb a 32 h)
+pub byte_opens : (a : ℕ) → a < 32 → meaning_of a ≡ event.Open a
+byte_opens a h = rw (lt-ltb a 32 h)
 
-pub byte-points : (a : ℕ) → a < 32 → meaningOf (32 + a) ≡ event.Point a
-byte-points a h = rw (le-ltb (32 + a) 32 (omega arith), lt-ltb (32 + a) 64 (omega arith), back)
+pub byte_points : (a : ℕ) → a < 32 → meaning_of (32 + a) ≡ event.Point a
+byte_points a h = rw (le-ltb (32 + a) 32 (omega arith), lt-ltb (32 + a) 64 (omega arith), back)
   where
     back : 32 + a - 32 ≡ a
     back = omega arith
 
-pub byte-closes-its : (a : ℕ) → a < 32 → meaningOf (66 + a) ≡ event.CloseOf a
-byte-closes-its a h =
+pub byte_closes_its : (a : ℕ) → a < 32 → meaning_of (66 + a) ≡ event.CloseOf a
+byte_closes_its a h =
     rw (
       le-ltb (66 + a) 32 (omega arith),
       le-ltb (66 + a) 64 (omega arith),
@@ -43,17 +43,17 @@ pub data Means : ℕ → Event → Type 0 where
   opens : {a : ℕ} → a < 32 → Means a (event.Open a)
   points : {a : ℕ} → a < 32 → Means (32 + a) (event.Point a)
   closes : Means 64 event.Close
-  closes-its : {a : ℕ} → a < 32 → Means (66 + a) (event.CloseOf a)
+  closes_its : {a : ℕ} → a < 32 → Means (66 + a) (event.CloseOf a)
   ends : Means 65 event.End
   other : {b : ℕ} → Means b event.Unknown
 
-pub byte-means : (b : ℕ) → Means b (meaningOf b)
-byte-means b = low (ltb b 32) refl
+pub byte_means : (b : ℕ) → Means b (meaning_of b)
+byte_means b = low (ltb b 32) refl
   where
     high : (x : Bool) → ltb b 98 ≡ x → 65 < b → Means b (cond x (event.CloseOf (b - 66)) event.Unknown)
     high true e l =
         let q : 66 + (b - 66) ≡ b = omega arith in
-        subst (λ (n : ℕ). Means n (event.CloseOf (b - 66))) q (Means.closes-its {a = b - 66} (omega (arith, ltb-true b 98 e)))
+        subst (λ (n : ℕ). Means n (event.CloseOf (b - 66))) q (Means.closes_its {a = b - 66} (omega (arith, ltb-true b 98 e)))
     high false e l = Means.other
 
     last : (x : Bool) → eqb b 65 ≡ x → 64 < b
@@ -88,23 +88,23 @@ byte-means b = low (ltb b 32) refl
     low false e = mid (ltb b 64) refl (ltb-false b 32 e)
 
 -- No byte opens a label from 32 on.
-pub below-after : {b : ℕ} {e : Event} {o : List ℕ} → Means b e → AllBelow 32 o → AllBelow 32 (openAfter o (eventOf e))
-below-after (Means.opens h) k = AllBelow.more h k
-below-after (Means.points h) k = k
-below-after Means.closes AllBelow.none = AllBelow.none
-below-after Means.closes (AllBelow.more h k) = k
-below-after (Means.closes-its h) AllBelow.none = AllBelow.none
-below-after (Means.closes-its h) (AllBelow.more l k) = k
-below-after Means.ends k = k
-below-after Means.other k = k
+pub below_after : {b : ℕ} {e : Event} {o : List ℕ} → Means b e → AllBelow 32 o → AllBelow 32 (open_after o (event_of e))
+below_after (Means.opens h) k = AllBelow.more h k
+below_after (Means.points h) k = k
+below_after Means.closes AllBelow.none = AllBelow.none
+below_after Means.closes (AllBelow.more h k) = k
+below_after (Means.closes_its h) AllBelow.none = AllBelow.none
+below_after (Means.closes_its h) (AllBelow.more l k) = k
+below_after Means.ends k = k
+below_after Means.other k = k
 
 -- As many bytes as before,
-pub labelled-length : (o w : List ℕ) → length (labelled o w) ≡ length w
-labelled-length o [] = refl
-labelled-length o (b ∷ w) = ap suc (labelled-length (openAfter o (eventOf (meaningOf b))) w)
+pub labelled_length : (o w : List ℕ) → length (labelled o w) ≡ length w
+labelled_length o [] = refl
+labelled_length o (b ∷ w) = ap suc (labelled_length (open_after o (event_of (meaning_of b))) w)
 
 -- and a byte 65 at the end stays.
-pub labelled-ends : (o w : List ℕ) → labelled o (w ++ (65 ∷ [])) ≡ labelled o w ++ (65 ∷ [])
-labelled-ends o [] = refl
-labelled-ends o (b ∷ w) =
-    ap (λ (l : List ℕ). labelledBy (meaningOf b) o b ∷ l) (labelled-ends (openAfter o (eventOf (meaningOf b))) w)
+pub labelled_ends : (o w : List ℕ) → labelled o (w ++ (65 ∷ [])) ≡ labelled o w ++ (65 ∷ [])
+labelled_ends o [] = refl
+labelled_ends o (b ∷ w) =
+    ap (λ (l : List ℕ). labelled_by (meaning_of b) o b ∷ l) (labelled_ends (open_after o (event_of (meaning_of b))) w)

@@ -11,22 +11,22 @@ use Rattle.grammar.specs.Names.{name_at}
 use Rattle.grammar.specs.Tags.{Tag, Labels, Nested}
 use Rattle.grammar.specs.Streams.{Opens, labelled}
 use Rattle.grammar.proofs.Names.{GoodList}
-use Rattle.grammar.proofs.Labelling.{byte-opens, byte-points, byte-closes-its}
+use Rattle.grammar.proofs.Labelling.{byte_opens, byte_points, byte_closes_its}
 
 -- The events of nested tags lead from the same open elements to the same,
-pub nested-opens : {ns : List (List ℕ)} {o o' es : List ℕ} {ts : List Tag} → Nested ns o ts es o' → Opens (length ns) o es o'
-nested-opens Nested.nothing = Opens.nothing
-nested-opens (Nested.opening l d n) = Opens.opens l.known d (nested-opens n)
-nested-opens (Nested.empty l n) = Opens.points l.known (nested-opens n)
-nested-opens (Nested.closing l n) = Opens.closes-its (nested-opens n)
+pub nested_opens : {ns : List (List ℕ)} {o o' es : List ℕ} {ts : List Tag} → Nested ns o ts es o' → Opens (length ns) o es o'
+nested_opens Nested.nothing = Opens.nothing
+nested_opens (Nested.opening l d n) = Opens.opens l.known d (nested_opens n)
+nested_opens (Nested.empty l n) = Opens.points l.known (nested_opens n)
+nested_opens (Nested.closing l n) = Opens.closes_its (nested_opens n)
 
 -- and their closes are labelled.
-pub nested-labelled : {ns : List (List ℕ)} {o o' es : List ℕ} {ts : List Tag} → length ns < 33 → Nested ns o ts es o'
+pub nested_labelled : {ns : List (List ℕ)} {o o' es : List ℕ} {ts : List Tag} → length ns < 33 → Nested ns o ts es o'
     → labelled o es ≡ es
-nested-labelled few Nested.nothing = refl
-nested-labelled few (Nested.opening {a = a} l d n) = rw (byte-opens a (omega (arith, l.known)), nested-labelled few n)
-nested-labelled few (Nested.empty {a = a} l n) = rw (byte-points a (omega (arith, l.known)), nested-labelled few n)
-nested-labelled few (Nested.closing {a = a} l n) = rw (byte-closes-its a (omega (arith, l.known)), nested-labelled few n)
+nested_labelled few Nested.nothing = refl
+nested_labelled few (Nested.opening {a = a} l d n) = rw (byte_opens a (omega (arith, l.known)), nested_labelled few n)
+nested_labelled few (Nested.empty {a = a} l n) = rw (byte_points a (omega (arith, l.known)), nested_labelled few n)
+nested_labelled few (Nested.closing {a = a} l n) = rw (byte_closes_its a (omega (arith, l.known)), nested_labelled few n)
 
 -- The events es have tags that lead from o to o' and give es with labelled closes.
 pub record Tagged (ns : List (List ℕ)) (o es o' : List ℕ) : Type 0 where
@@ -34,33 +34,33 @@ pub record Tagged (ns : List (List ℕ)) (o es o' : List ℕ) : Type 0 where
   pub nested : Nested ns o tags (labelled o es) o'
 
 module _ (ns : List (List ℕ)) (good : GoodList ns) where
-  label-at : (a : ℕ) → a < length ns → Labels ns (name_at ns a) a
-  label-at a h = record { place = good.placed a h; known = h }
+  label_at_lem : (a : ℕ) → a < length ns → Labels ns (name_at ns a) a
+  label_at_lem a h = record { place = good.placed a h; known = h }
 
   pub small : (a : ℕ) → a < length ns → a < 32
   small a h = omega (arith, good.few)
 
   -- Events that lead on have tags.
-  pub opens-tagged : {o o' es : List ℕ} → Opens (length ns) o es o' → AllBelow (length ns) o → Tagged ns o es o'
-  opens-tagged Opens.nothing k = record { tags = []; nested = Nested.nothing }
-  opens-tagged (Opens.opens {a = a} h d r) k =
-      let t = opens-tagged r (AllBelow.more h k) in
+  pub opens_tagged : {o o' es : List ℕ} → Opens (length ns) o es o' → AllBelow (length ns) o → Tagged ns o es o'
+  opens_tagged Opens.nothing k = record { tags = []; nested = Nested.nothing }
+  opens_tagged (Opens.opens {a = a} h d r) k =
+      let t = opens_tagged r (AllBelow.more h k) in
       record {
         tags = Tag.opening (name_at ns a) ∷ t.tags;
-        nested = rw (byte-opens a (small a h)) (Nested.opening (label-at a h) d t.nested);
+        nested = rw (byte_opens a (small a h)) (Nested.opening (label_at_lem a h) d t.nested);
       }
-  opens-tagged (Opens.points {a = a} h r) k =
-      let t = opens-tagged r k in
+  opens_tagged (Opens.points {a = a} h r) k =
+      let t = opens_tagged r k in
       record {
         tags = Tag.empty (name_at ns a) ∷ t.tags;
-        nested = rw (byte-points a (small a h)) (Nested.empty (label-at a h) t.nested);
+        nested = rw (byte_points a (small a h)) (Nested.empty (label_at_lem a h) t.nested);
       }
-  opens-tagged (Opens.closes {a = a} r) (AllBelow.more h k) =
-      let t = opens-tagged r k in
-      record { tags = Tag.closing (name_at ns a) ∷ t.tags; nested = Nested.closing (label-at a h) t.nested }
-  opens-tagged (Opens.closes-its {a = a} r) (AllBelow.more h k) =
-      let t = opens-tagged r k in
+  opens_tagged (Opens.closes {a = a} r) (AllBelow.more h k) =
+      let t = opens_tagged r k in
+      record { tags = Tag.closing (name_at ns a) ∷ t.tags; nested = Nested.closing (label_at_lem a h) t.nested }
+  opens_tagged (Opens.closes_its {a = a} r) (AllBelow.more h k) =
+      let t = opens_tagged r k in
       record {
         tags = Tag.closing (name_at ns a) ∷ t.tags;
-        nested = rw (byte-closes-its a (small a h)) (Nested.closing (label-at a h) t.nested);
+        nested = rw (byte_closes_its a (small a h)) (Nested.closing (label_at_lem a h) t.nested);
       }

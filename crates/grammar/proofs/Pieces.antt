@@ -8,48 +8,48 @@ use native.Mathlib.Omega.{arith}
 use lib.ListN.{length}
 use Rattle.grammar.specs.declared.Stop.{Stop}
 use Rattle.grammar.specs.declared.Stop.TheVariants.{Not, At}
-use Rattle.grammar.specs.Feeding.{Step, goesOn, Fed, feed}
-use Rattle.grammar.proofs.Feeding.{then, feed-pieces, all-taken}
+use Rattle.grammar.specs.Feeding.{Step, goes_on, Fed, feed}
+use Rattle.grammar.proofs.Feeding.{then, feed_pieces, all_taken}
 
 -- A test cannot pass and fail, and fails where it cannot pass.
-pub true-false : {b : Bool} → b ≡ true → b ≡ false → ⊥
-true-false e f = let z : ◌≡◌ {A = ℕ} 0 1 = cc in omega arith
+pub true_false : {b : Bool} → b ≡ true → b ≡ false → ⊥
+true_false e f = let z : ◌≡◌ {A = ℕ} 0 1 = cc in omega arith
 
 pub untrue : (b : Bool) → ¬ (b ≡ true) → b ≡ false
 untrue true n = absurd (n refl)
 untrue false n = refl
 
-on-not : (x : Stop) → goesOn x ≡ true → x ≡ Not
-on-not Not e = refl
-on-not (At k) e = absurd (true-false e refl)
+on_not : (x : Stop) → goes_on x ≡ true → x ≡ Not
+on_not Not e = refl
+on_not (At k) e = absurd (true_false e refl)
 
 module _ {A : Type 0} (step : A → ℕ → Step A) where
   -- What goes on has taken all.
-  pub feed-taken : (a : A) (s : List ℕ) → goesOn (feed step a s).stops ≡ true → (feed step a s).taken ≡ length s
-  feed-taken a s e = ap (λ (f : Fed A). f.taken) (all-taken step a s (on-not (feed step a s).stops e))
+  pub feed_taken : (a : A) (s : List ℕ) → goes_on (feed step a s).stops ≡ true → (feed step a s).taken ≡ length s
+  feed_taken a s e = ap (λ (f : Fed A). f.taken) (all_taken step a s (on_not (feed step a s).stops e))
 
   -- What goes on over two pieces goes on over the first.
-  pub feed-front : (a : A) (s t : List ℕ) → goesOn (feed step a (s ++ t)).stops ≡ true → goesOn (feed step a s).stops ≡ true
-  feed-front a s t e = go (goesOn (feed step a s).stops) refl (rw (feed-pieces step a s t) at e)
+  pub feed_front : (a : A) (s t : List ℕ) → goes_on (feed step a (s ++ t)).stops ≡ true → goes_on (feed step a s).stops ≡ true
+  feed_front a s t e = go (goes_on (feed step a s).stops) refl (rw (feed_pieces step a s t) at e)
     where
-      go : (x : Bool) → goesOn (feed step a s).stops ≡ x → goesOn (then step (feed step a s) t).stops ≡ true
-          → goesOn (feed step a s).stops ≡ true
+      go : (x : Bool) → goes_on (feed step a s).stops ≡ x → goes_on (then step (feed step a s) t).stops ≡ true
+          → goes_on (feed step a s).stops ≡ true
       go true f h = f
       go false f h = rw f at h
 
   -- Where the bytes u go on, and no more with the byte after them, u is what is taken.
-  pub feed-stops-at : (a : A) (u : List ℕ) (b : ℕ) (v : List ℕ)
-      → goesOn (feed step a u).stops ≡ true → goesOn (feed step a (u ++ (b ∷ []))).stops ≡ false
-      → (goesOn (feed step a (u ++ (b ∷ v))).stops ≡ false) × ((feed step a (u ++ (b ∷ v))).taken ≡ length u)
-  feed-stops-at a u b v e f = rw (feed-pieces step a u (b ∷ v), e) (go (goesOn (step c b).stops) refl)
+  pub feed_stops_at : (a : A) (u : List ℕ) (b : ℕ) (v : List ℕ)
+      → goes_on (feed step a u).stops ≡ true → goes_on (feed step a (u ++ (b ∷ []))).stops ≡ false
+      → (goes_on (feed step a (u ++ (b ∷ v))).stops ≡ false) × ((feed step a (u ++ (b ∷ v))).taken ≡ length u)
+  feed_stops_at a u b v e f = rw (feed_pieces step a u (b ∷ v), e) (go (goes_on (step c b).stops) refl)
     where
       c : A
       c = (feed step a u).state
 
-      fails : goesOn (feed step c (b ∷ [])).stops ≡ false
-      fails = rw (feed-pieces step a u (b ∷ []), e) at f
+      fails : goes_on (feed step c (b ∷ [])).stops ≡ false
+      fails = rw (feed_pieces step a u (b ∷ []), e) at f
 
-      go : (x : Bool) → goesOn (step c b).stops ≡ x
-          → (goesOn (feed step c (b ∷ v)).stops ≡ false) × ((feed step a u).taken + (feed step c (b ∷ v)).taken ≡ length u)
-      go true t = absurd (true-false refl (rw t at fails))
-      go false t = (rw t t, rw t (omega (arith, feed-taken a u e)))
+      go : (x : Bool) → goes_on (step c b).stops ≡ x
+          → (goes_on (feed step c (b ∷ v)).stops ≡ false) × ((feed step a u).taken + (feed step c (b ∷ v)).taken ≡ length u)
+      go true t = absurd (true_false refl (rw t at fails))
+      go false t = (rw t t, rw t (omega (arith, feed_taken a u e)))

@@ -6,16 +6,16 @@ abbrev pub within : ℕ → ℕ → ℕ → Bool
 within low high b = not (ltb b low) && ltb b (suc high)
 
 -- An ASCII letter, A to Z or a to z.
-abbrev pub isLetter : ℕ → Bool
-isLetter b = within 65 90 b || within 97 122 b
+abbrev pub is_letter : ℕ → Bool
+is_letter b = within 65 90 b || within 97 122 b
 
 -- A letter, a digit, a hyphen, a dot or an underscore.
-abbrev pub isNameByte : ℕ → Bool
-isNameByte b = isLetter b || (within 48 57 b || (eqb b 45 || (eqb b 46 || eqb b 95)))
+abbrev pub is_name_byte : ℕ → Bool
+is_name_byte b = is_letter b || (within 48 57 b || (eqb b 45 || (eqb b 46 || eqb b 95)))
 
 -- What may stand between tags: a space, a line feed, a carriage return.
-abbrev pub isBlank : ℕ → Bool
-isBlank b = eqb b 32 || (eqb b 10 || eqb b 13)
+abbrev pub is_blank : ℕ → Bool
+is_blank b = eqb b 32 || (eqb b 10 || eqb b 13)
 
 -- "<", "/" and ">".
 abbrev pub less : ℕ
@@ -28,11 +28,11 @@ abbrev pub greater : ℕ
 greater = 62
 
 -- The class of a byte: 1 a blank, 2 a letter, 3 another byte of a name, 4 "<", 5 "/", 6 ">", 0 any other.
-abbrev pub classOf : ℕ → ℕ
-classOf b =
-    cond (isBlank b) 1
-    (cond (isLetter b) 2
-    (cond (isNameByte b) 3
+abbrev pub class_of : ℕ → ℕ
+class_of b =
+    cond (is_blank b) 1
+    (cond (is_letter b) 2
+    (cond (is_name_byte b) 3
     (cond (eqb b less) 4
     (cond (eqb b slash) 5
     (cond (eqb b greater) 6 0)))))

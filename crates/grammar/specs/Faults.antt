@@ -3,8 +3,8 @@
 use Rattle.std.specs.Prelude.{◌≡◌, true, List, [], ◌∷◌, ◌++◌, ℕ, suc, ◌<◌, ◌≤◌, length}
 use Rattle.grammar.specs.declared.Fault.{Fault}
 use Rattle.grammar.specs.declared.Fault.TheVariants as fault
-use Rattle.grammar.specs.Names.{isName, place_of}
-use Rattle.grammar.specs.Tags.{Tag, name_of, tagText, Holds, Labels, Nested, Text, Begun, begunText, isBegun}
+use Rattle.grammar.specs.Names.{is_name, place_of}
+use Rattle.grammar.specs.Tags.{Tag, name_of, tag_text, Holds, Labels, Nested, Text, Begun, begun_text, is_begun}
 
 -- Some text of tags and blanks begins with s.
 pub record Begins (s : List ℕ) : Type 0 where
@@ -17,16 +17,16 @@ pub record Begins (s : List ℕ) : Type 0 where
 pub record Good (ns : List (List ℕ)) (room : ℕ) (s : List ℕ) (q : Begun) (o es : List ℕ) : Type 0 where
   pub before : List ℕ
   pub tags : List Tag
-  pub parts : s ≡ before ++ begunText q
+  pub parts : s ≡ before ++ begun_text q
   pub holds : Holds before tags
-  pub begun : isBegun q ≡ true
+  pub begun : is_begun q ≡ true
   pub nested : Nested ns [] tags es o
   pub fits : length es ≤ room
 
 -- With the byte b the tag t is whole. What it names is a name: "</>" is no tag, though it is the text of an opening tag of "/".
 pub record Whole (q : Begun) (b : ℕ) (t : Tag) : Type 0 where
-  pub text : begunText q ++ (b ∷ []) ≡ tagText t
-  pub named : isName (name_of t) ≡ true
+  pub text : begun_text q ++ (b ∷ []) ≡ tag_text t
+  pub named : is_name (name_of t) ≡ true
 
 -- The first place of a text at fault, and the first kind that applies there, in 02's order. All before that place is good.
 -- The place of a byte that is not allowed is that byte; of a tag, its ">"; of the text's end, the text's length.

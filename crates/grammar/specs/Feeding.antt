@@ -11,9 +11,9 @@ pub record Step (A : Type 0) : Type 0 where
   pub gives : List ℕ
   pub stops : Stop
 
-abbrev pub goesOn : Stop → Bool
-goesOn Not = true
-goesOn (At f) = false
+abbrev pub goes_on : Stop → Bool
+goes_on Not = true
+goes_on (At f) = false
 
 -- A byte at fault leaves all as it was.
 abbrev pub stopped : {A : Type 0} → A → Fault → Step A
@@ -38,7 +38,7 @@ after out n f = record { gives = out ++ f.gives; taken = n + f.taken; state = f.
 abbrev pub feed : {A : Type 0} → (A → ℕ → Step A) → A → List ℕ → Fed A
 feed step a [] = record { gives = []; taken = 0; state = a; stops = Not }
 feed step a (b ∷ s) =
-    cond (goesOn (step a b).stops)
+    cond (goes_on (step a b).stops)
     (after (step a b).gives 1 (feed step (step a b).next s))
     (record { gives = []; taken = 0; state = a; stops = (step a b).stops })
 
@@ -51,6 +51,6 @@ pub record Roomed (A : Type 0) : Type 0 where
 abbrev pub roomed : {A : Type 0} → (A → ℕ → Step A) → Roomed A → ℕ → Step (Roomed A)
 roomed step r b =
     let x = step r.inner b in
-    cond (goesOn x.stops && ltb r.left (length x.gives))
+    cond (goes_on x.stops && ltb r.left (length x.gives))
     (stopped r fault.Short)
     (record { next = record { inner = x.next; left = r.left - length x.gives }; gives = x.gives; stops = x.stops })

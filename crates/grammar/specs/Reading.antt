@@ -6,10 +6,10 @@ use Rattle.grammar.specs.declared.Stop.{Stop}
 use Rattle.grammar.specs.declared.Stop.TheVariants.{Not, At}
 use Rattle.grammar.specs.declared.Reading.{Reading}
 use Rattle.grammar.specs.declared.Reading.TheVariants as reading
-use Rattle.grammar.specs.Bytes.{isBlank, isLetter, isNameByte, less, slash, greater}
-use Rattle.grammar.specs.Names.{place_of, lines_of, goodNames}
+use Rattle.grammar.specs.Bytes.{is_blank, is_letter, is_name_byte, less, slash, greater}
+use Rattle.grammar.specs.Names.{place_of, lines_of, good_names}
 use Rattle.grammar.specs.Tags.{Tag, name_of, Begun}
-use Rattle.grammar.specs.Feeding.{Step, goesOn, stopped, stepped, Fed, feed, Roomed, roomed}
+use Rattle.grammar.specs.Feeding.{Step, goes_on, stopped, stepped, Fed, feed, Roomed, roomed}
 
 -- What a byte makes of it: it is not allowed, more is begun, or the tag is whole.
 pub data Next : Type 0 where
@@ -20,15 +20,15 @@ pub data Next : Type 0 where
 -- Between tags a blank or "<" is allowed; after "<" a letter or "/"; after "</" a letter; in a name a name byte, ">" and,
 -- in an opening tag, "/"; after the "/" of an empty-element tag ">".
 abbrev pub extend : Begun → ℕ → Next
-extend Begun.nothing b = cond (isBlank b) (Next.more Begun.nothing) (cond (eqb b less) (Next.more Begun.angle) Next.no)
+extend Begun.nothing b = cond (is_blank b) (Next.more Begun.nothing) (cond (eqb b less) (Next.more Begun.angle) Next.no)
 extend Begun.angle b =
-    cond (isLetter b) (Next.more (Begun.opening (b ∷ []))) (cond (eqb b slash) (Next.more Begun.slashed) Next.no)
-extend Begun.slashed b = cond (isLetter b) (Next.more (Begun.closing (b ∷ []))) Next.no
+    cond (is_letter b) (Next.more (Begun.opening (b ∷ []))) (cond (eqb b slash) (Next.more Begun.slashed) Next.no)
+extend Begun.slashed b = cond (is_letter b) (Next.more (Begun.closing (b ∷ []))) Next.no
 extend (Begun.opening x) b =
-    cond (isNameByte b) (Next.more (Begun.opening (x ++ (b ∷ []))))
+    cond (is_name_byte b) (Next.more (Begun.opening (x ++ (b ∷ []))))
     (cond (eqb b greater) (Next.whole (Tag.opening x)) (cond (eqb b slash) (Next.more (Begun.empty x)) Next.no))
 extend (Begun.closing x) b =
-    cond (isNameByte b) (Next.more (Begun.closing (x ++ (b ∷ [])))) (cond (eqb b greater) (Next.whole (Tag.closing x)) Next.no)
+    cond (is_name_byte b) (Next.more (Begun.closing (x ++ (b ∷ [])))) (cond (eqb b greater) (Next.whole (Tag.closing x)) Next.no)
 extend (Begun.empty x) b = cond (eqb b greater) (Next.whole (Tag.empty x)) Next.no
 
 -- How far a text is read: the tag that is begun, and the labels of the elements that are open, newest first.
@@ -82,30 +82,30 @@ abbrev pub closed : Place → Bool
 closed p = unbegun p.begun && eqb (length p.levels) 0
 
 -- The bytes of a text, with room for so many events.
-abbrev pub readFed : List (List ℕ) → ℕ → List ℕ → Fed (Roomed Place)
-readFed ns room s = feed (roomed (read_step ns)) (record { inner = fresh; left = room }) s
+abbrev pub read_fed : List (List ℕ) → ℕ → List ℕ → Fed (Roomed Place)
+read_fed ns room s = feed (roomed (read_step ns)) (record { inner = fresh; left = room }) s
 
 -- The text's end, after which byte 65 is given: nothing is open, and there is room for it.
-abbrev pub endStop : Bool → ℕ → Stop
-endStop closed left = cond closed (cond (ltb 0 left) Not (At fault.Short)) (At fault.Ended)
+abbrev pub end_stop : Bool → ℕ → Stop
+end_stop closed left = cond closed (cond (ltb 0 left) Not (At fault.Short)) (At fault.Ended)
 
 -- The whole text: the first byte at fault, or else the end.
-abbrev pub textStop : Fed (Roomed Place) → Stop
-textStop f = cond (goesOn f.stops) (endStop (closed f.state.inner) f.state.left) f.stops
+abbrev pub text_stop : Fed (Roomed Place) → Stop
+text_stop f = cond (goes_on f.stops) (end_stop (closed f.state.inner) f.state.left) f.stops
 
 abbrev pub answer_of : Stop → ℕ → ℕ → Reading
 answer_of Not taken events = reading.Taken (suc events)
 answer_of (At k) taken events = reading.Refused k taken
 
 -- What the reader answers for names, a text and an output with so much room.
-abbrev pub readAnswer : List ℕ → List ℕ → ℕ → Reading
-readAnswer names s room =
-    let f = readFed (lines_of names) room s in
-    cond (goodNames names) (answer_of (textStop f) f.taken (length f.gives)) reading.Names
+abbrev pub read_answer : List ℕ → List ℕ → ℕ → Reading
+read_answer names s room =
+    let f = read_fed (lines_of names) room s in
+    cond (good_names names) (answer_of (text_stop f) f.taken (length f.gives)) reading.Names
 
 -- What stands in the output afterwards: from its front the events and byte 65; nothing else of it changes. A refusal
 -- writes nothing.
-abbrev pub readOut : List ℕ → List ℕ → List ℕ → List ℕ
-readOut names s out =
-    let f = readFed (lines_of names) (length out) s in
-    cond (goodNames names && goesOn (textStop f)) (f.gives ++ (65 ∷ drop (suc (length f.gives)) out)) out
+abbrev pub read_out : List ℕ → List ℕ → List ℕ → List ℕ
+read_out names s out =
+    let f = read_fed (lines_of names) (length out) s in
+    cond (good_names names && goes_on (text_stop f)) (f.gives ++ (65 ∷ drop (suc (length f.gives)) out)) out

@@ -1,8 +1,8 @@
 -- The grammar of tagged text (02, K1 and K2): what a text holds, and how its tags are nested. Definitions only; none speaks of
 -- how a text is read.
 use Rattle.std.specs.Prelude.{◌≡◌, Bool, true, List, [], ◌∷◌, ◌++◌, ℕ, ◌+◌, ◌<◌, length}
-use Rattle.grammar.specs.Bytes.{isBlank, less, slash, greater}
-use Rattle.grammar.specs.Names.{isName, place_of}
+use Rattle.grammar.specs.Bytes.{is_blank, less, slash, greater}
+use Rattle.grammar.specs.Names.{is_name, place_of}
 
 -- A tag with its name: an opening tag, a closing tag, or, for a point, an empty-element tag.
 pub data Tag : Type 0 where
@@ -16,21 +16,21 @@ name_of (Tag.closing x) = x
 name_of (Tag.empty x) = x
 
 -- <x>, </x> and <x/>.
-abbrev pub tagText : Tag → List ℕ
-tagText (Tag.opening x) = less ∷ (x ++ (greater ∷ []))
-tagText (Tag.closing x) = less ∷ slash ∷ (x ++ (greater ∷ []))
-tagText (Tag.empty x) = less ∷ (x ++ (slash ∷ greater ∷ []))
+abbrev pub tag_text : Tag → List ℕ
+tag_text (Tag.opening x) = less ∷ (x ++ (greater ∷ []))
+tag_text (Tag.closing x) = less ∷ slash ∷ (x ++ (greater ∷ []))
+tag_text (Tag.empty x) = less ∷ (x ++ (slash ∷ greater ∷ []))
 
 -- The texts of tags, one after another, without blanks.
-abbrev pub tagsText : List Tag → List ℕ
-tagsText [] = []
-tagsText (t ∷ ts) = tagText t ++ tagsText ts
+abbrev pub tags_text : List Tag → List ℕ
+tags_text [] = []
+tags_text (t ∷ ts) = tag_text t ++ tags_text ts
 
 -- A text, and the tags that it holds: tags one after another, and blanks before, between and after them.
 pub data Holds : List ℕ → List Tag → Type 0 where
   nothing : Holds [] []
-  blank : {s : List ℕ} {ts : List Tag} {b : ℕ} → isBlank b ≡ true → Holds s ts → Holds (b ∷ s) ts
-  tag : {s : List ℕ} {ts : List Tag} {t : Tag} → isName (name_of t) ≡ true → Holds s ts → Holds (tagText t ++ s) (t ∷ ts)
+  blank : {s : List ℕ} {ts : List Tag} {b : ℕ} → is_blank b ≡ true → Holds s ts → Holds (b ∷ s) ts
+  tag : {s : List ℕ} {ts : List Tag} {t : Tag} → is_name (name_of t) ≡ true → Holds s ts → Holds (tag_text t ++ s) (t ∷ ts)
 
 -- x is the name of label a.
 pub record Labels (ns : List (List ℕ)) (x : List ℕ) (a : ℕ) : Type 0 where
@@ -65,19 +65,19 @@ pub data Begun : Type 0 where
   closing : List ℕ → Begun
   empty : List ℕ → Begun
 
-abbrev pub begunText : Begun → List ℕ
-begunText Begun.nothing = []
-begunText Begun.angle = less ∷ []
-begunText Begun.slashed = less ∷ slash ∷ []
-begunText (Begun.opening x) = less ∷ x
-begunText (Begun.closing x) = less ∷ slash ∷ x
-begunText (Begun.empty x) = less ∷ (x ++ (slash ∷ []))
+abbrev pub begun_text : Begun → List ℕ
+begun_text Begun.nothing = []
+begun_text Begun.angle = less ∷ []
+begun_text Begun.slashed = less ∷ slash ∷ []
+begun_text (Begun.opening x) = less ∷ x
+begun_text (Begun.closing x) = less ∷ slash ∷ x
+begun_text (Begun.empty x) = less ∷ (x ++ (slash ∷ []))
 
 -- What stands of its name is a name.
-abbrev pub isBegun : Begun → Bool
-isBegun Begun.nothing = true
-isBegun Begun.angle = true
-isBegun Begun.slashed = true
-isBegun (Begun.opening x) = isName x
-isBegun (Begun.closing x) = isName x
-isBegun (Begun.empty x) = isName x
+abbrev pub is_begun : Begun → Bool
+is_begun Begun.nothing = true
+is_begun Begun.angle = true
+is_begun Begun.slashed = true
+is_begun (Begun.opening x) = is_name x
+is_begun (Begun.closing x) = is_name x
+is_begun (Begun.empty x) = is_name x

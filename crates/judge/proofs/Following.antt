@@ -6,8 +6,8 @@ use Prim.Native.Nat.{ℕ, ◌+◌}
 use lib.Dec.{ltb}
 use lib.ListN.{length}
 use Rattle.meaning.specs.Refusals.{Line, first_of}
-use Rattle.bodies.specs.Sound.{statesIn, labelsIn}
-use Rattle.table.specs.File.{isShort, headerRight, contentsRight, lengthRight, bodiesRight, byContents, byBodies, reading_of}
+use Rattle.bodies.specs.Sound.{states_in, labels_in}
+use Rattle.table.specs.File.{is_short, header_right, contents_right, length_right, bodies_right, by_contents, by_bodies, reading_of}
 use Rattle.table.specs.declared.Reading.{Reading}
 use Rattle.table.specs.declared.Reading.TheVariants as reading
 use Rattle.table.specs.declared.Refusal.{Refusal}
@@ -17,8 +17,8 @@ use Rattle.answers.specs.declared.Record.{Record}
 use Rattle.answers.specs.declared.Event.{Event}
 use Rattle.answers.specs.declared.Refusal as answers
 use Rattle.answers.specs.declared.Refusal.TheVariants as why
-use Rattle.judge.specs.Judging.{refuses, tableLines, callLines, eventLines, judgedLines, startLines, sizesRight}
-use Rattle.judge.specs.Judging.{isFault, faultAt, faultOf, newestWord}
+use Rattle.judge.specs.Judging.{refuses, table_lines, call_lines, event_lines, judged_lines, start_lines, sizes_right}
+use Rattle.judge.specs.Judging.{is_fault, fault_at, fault_of, newest_word}
 use Rattle.judge.specs.declared.Judged.{Judged}
 use Rattle.judge.specs.declared.Judged.TheVariants as judged
 
@@ -28,18 +28,18 @@ after judged.Fine next = next
 after (judged.Refused reason) next = judged.Refused reason
 
 -- What is judged after a file was read.
-abbrev afterReading : Reading → Judged → Judged
-afterReading (reading.Taken n k) next = next
-afterReading (reading.Refused reason) next = judged.Refused (why.Table reason)
+abbrev after_reading : Reading → Judged → Judged
+after_reading (reading.Taken n k) next = next
+after_reading (reading.Refused reason) next = judged.Refused (why.Table reason)
 
 -- Lines after lines.
-pub first-append : {A : Type 0} (xs ys : List (Line A)) (o : A) → first_of (xs ++ ys) o ≡ first_of xs (first_of ys o)
-first-append [] ys o = refl
-first-append (l ∷ xs) ys o = rw (first-append xs ys o)
+pub first_append : {A : Type 0} (xs ys : List (Line A)) (o : A) → first_of (xs ++ ys) o ≡ first_of xs (first_of ys o)
+first_append [] ys o = refl
+first_append (l ∷ xs) ys o = rw (first_append xs ys o)
 
 -- The table's lines say what reading the file says.
-table-first : (f : List ℕ) (o : Judged) → first_of (tableLines f) o ≡ afterReading (reading_of f) o
-table-first f o = go (isShort f) (headerRight f) (contentsRight f) (lengthRight f) (bodiesRight f) (byContents f) (byBodies f)
+table_first : (f : List ℕ) (o : Judged) → first_of (table_lines f) o ≡ after_reading (reading_of f) o
+table_first f o = go (is_short f) (header_right f) (contents_right f) (length_right f) (bodies_right f) (by_contents f) (by_bodies f)
   where
     go :
         (a b c d e : Bool) (contents bodies : Refusal) →
@@ -48,12 +48,12 @@ table-first f o = go (isShort f) (headerRight f) (contentsRight f) (lengthRight 
         (cond (not c) (judged.Refused (why.Table contents))
         (cond (not d) (judged.Refused (why.Table file.Length))
         (cond (not e) (judged.Refused (why.Table bodies)) o))))
-        ≡ afterReading
+        ≡ after_reading
         (cond a (reading.Refused file.Short)
         (cond (not b) (reading.Refused file.Header)
         (cond (not c) (reading.Refused contents)
         (cond (not d) (reading.Refused file.Length)
-        (cond (not e) (reading.Refused bodies) (reading.Taken (statesIn f) (labelsIn f)))))))
+        (cond (not e) (reading.Refused bodies) (reading.Taken (states_in f) (labels_in f)))))))
         o
     go true b c d e contents bodies = refl
     go false false c d e contents bodies = refl
@@ -65,10 +65,10 @@ table-first f o = go (isShort f) (headerRight f) (contentsRight f) (lengthRight 
 -- The call's lines before others.
 call-first :
     (n k : ℕ) (r : Record) (work : List ℕ) (reports : ℕ) (o : Judged) →
-    first_of (callLines n k r work reports) o ≡ after (first_of (callLines n k r work reports) judged.Fine) o
+    first_of (call_lines n k r work reports) o ≡ after (first_of (call_lines n k r work reports) judged.Fine) o
 call-first n k r work reports o =
-    let place = faultOf r n k work in
-    go (not (sizesRight r.rows r.allowed (length work)) || ltb reports (r.rows + 1)) (isFault place) r.finished (faultAt place)
+    let place = fault_of r n k work in
+    go (not (sizes_right r.rows r.allowed (length work)) || ltb reports (r.rows + 1)) (is_fault place) r.finished (fault_at place)
   where
     go :
         (a b c : Bool) (at : ℕ) →
@@ -82,56 +82,56 @@ call-first n k r work reports o =
 -- A file that is refused is the first reason.
 pub table-stands :
     (f : List ℕ) (rest : List (Line Judged)) (reason : Refusal) → reading_of f ≡ reading.Refused reason →
-    judged.Refused (why.Table reason) ≡ first_of (tableLines f ++ rest) judged.Fine
+    judged.Refused (why.Table reason) ≡ first_of (table_lines f ++ rest) judged.Fine
 table-stands f rest reason e =
     let o : Judged = first_of rest judged.Fine in
-    sym (first-append (tableLines f) rest judged.Fine ∙ table-first f o ∙ ap (λ (x : Reading). afterReading x o) e)
+    sym (first_append (table_lines f) rest judged.Fine ∙ table_first f o ∙ ap (λ (x : Reading). after_reading x o) e)
 
 -- A file that is taken leaves the rest to be judged.
 pub table-passes :
     (f : List ℕ) (rest : List (Line Judged)) (n k : ℕ) → reading_of f ≡ reading.Taken n k →
-    first_of (tableLines f ++ rest) judged.Fine ≡ first_of rest judged.Fine
+    first_of (table_lines f ++ rest) judged.Fine ≡ first_of rest judged.Fine
 table-passes f rest n k e =
     let o : Judged = first_of rest judged.Fine in
-    first-append (tableLines f) rest judged.Fine ∙ table-first f o ∙ ap (λ (x : Reading). afterReading x o) e
+    first_append (table_lines f) rest judged.Fine ∙ table_first f o ∙ ap (λ (x : Reading). after_reading x o) e
 
 module _ (f : List ℕ) (r : Record) (work : List ℕ) (reports : ℕ) (event : Event) (n k : ℕ) (read : reading_of f ≡ reading.Taken n k) where
   -- The call's judgement, then the event's.
   both-judged :
-      (call next : Judged) → call ≡ first_of (callLines n k r work reports) judged.Fine → next ≡ first_of (eventLines k r (newestWord r work) event) judged.Fine →
-      first_of (judgedLines f r work reports event) judged.Fine ≡ after call next
+      (call next : Judged) → call ≡ first_of (call_lines n k r work reports) judged.Fine → next ≡ first_of (event_lines k r (newest_word r work) event) judged.Fine →
+      first_of (judged_lines f r work reports event) judged.Fine ≡ after call next
   both-judged call next h g =
       let s = taken-is-sound f n k read in
-      let x : ℕ = newestWord r work in
-      let hn : call ≡ first_of (callLines (statesIn f) (labelsIn f) r work reports) judged.Fine =
-      h ∙ ap₂ (λ (y z : ℕ). first_of (callLines y z r work reports) judged.Fine) s.1 s.2 in
-      let gk : next ≡ first_of (eventLines (labelsIn f) r x event) judged.Fine = g ∙ ap (λ (y : ℕ). first_of (eventLines y r x event) judged.Fine) s.2 in
-      table-passes f (callLines (statesIn f) (labelsIn f) r work reports ++ eventLines (labelsIn f) r x event) n k read
-      ∙ first-append (callLines (statesIn f) (labelsIn f) r work reports) (eventLines (labelsIn f) r x event) judged.Fine
-      ∙ call-first (statesIn f) (labelsIn f) r work reports (first_of (eventLines (labelsIn f) r x event) judged.Fine)
+      let x : ℕ = newest_word r work in
+      let hn : call ≡ first_of (call_lines (states_in f) (labels_in f) r work reports) judged.Fine =
+      h ∙ ap₂ (λ (y z : ℕ). first_of (call_lines y z r work reports) judged.Fine) s.1 s.2 in
+      let gk : next ≡ first_of (event_lines (labels_in f) r x event) judged.Fine = g ∙ ap (λ (y : ℕ). first_of (event_lines y r x event) judged.Fine) s.2 in
+      table-passes f (call_lines (states_in f) (labels_in f) r work reports ++ event_lines (labels_in f) r x event) n k read
+      ∙ first_append (call_lines (states_in f) (labels_in f) r work reports) (event_lines (labels_in f) r x event) judged.Fine
+      ∙ call-first (states_in f) (labels_in f) r work reports (first_of (event_lines (labels_in f) r x event) judged.Fine)
       ∙ sym (rw (hn, gk))
 
   -- A call that is refused.
   pub call-stands :
-      (call : Judged) (reason : answers.Refusal) → call ≡ first_of (callLines n k r work reports) judged.Fine → call ≡ judged.Refused reason →
-      call ≡ first_of (judgedLines f r work reports event) judged.Fine
+      (call : Judged) (reason : answers.Refusal) → call ≡ first_of (call_lines n k r work reports) judged.Fine → call ≡ judged.Refused reason →
+      call ≡ first_of (judged_lines f r work reports event) judged.Fine
   call-stands call reason h e =
-      let next : Judged = first_of (eventLines k r (newestWord r work) event) judged.Fine in
+      let next : Judged = first_of (event_lines k r (newest_word r work) event) judged.Fine in
       e ∙ sym (both-judged call next h refl ∙ ap (λ (x : Judged). after x next) e)
 
   -- A call that is not, and its event.
   pub call_passes :
-      (call next : Judged) → call ≡ first_of (callLines n k r work reports) judged.Fine → call ≡ judged.Fine →
-      next ≡ first_of (eventLines k r (newestWord r work) event) judged.Fine → next ≡ first_of (judgedLines f r work reports event) judged.Fine
+      (call next : Judged) → call ≡ first_of (call_lines n k r work reports) judged.Fine → call ≡ judged.Fine →
+      next ≡ first_of (event_lines k r (newest_word r work) event) judged.Fine → next ≡ first_of (judged_lines f r work reports event) judged.Fine
   call_passes call next h e g = sym (both-judged call next h g ∙ ap (λ (x : Judged). after x next) e)
 
 -- The one line of a start after the table's.
 pub start-judged :
-    (f : List ℕ) (rows allowed size n k : ℕ) → reading_of f ≡ reading.Taken n k → (b : Bool) → sizesRight rows allowed size ≡ b →
-    cond b judged.Fine (judged.Refused why.Sizes) ≡ first_of (startLines f rows allowed size) judged.Fine
+    (f : List ℕ) (rows allowed size n k : ℕ) → reading_of f ≡ reading.Taken n k → (b : Bool) → sizes_right rows allowed size ≡ b →
+    cond b judged.Fine (judged.Refused why.Sizes) ≡ first_of (start_lines f rows allowed size) judged.Fine
 start-judged f rows allowed size n k e b h =
     go b ∙ ap (λ (x : Bool). cond (not x) (judged.Refused why.Sizes) judged.Fine) (sym h)
-    ∙ sym (table-passes f (refuses (not (sizesRight rows allowed size)) why.Sizes ∷ []) n k e)
+    ∙ sym (table-passes f (refuses (not (sizes_right rows allowed size)) why.Sizes ∷ []) n k e)
   where
     go : (b : Bool) → cond b judged.Fine (judged.Refused why.Sizes) ≡ cond (not b) (judged.Refused why.Sizes) judged.Fine
     go true = refl

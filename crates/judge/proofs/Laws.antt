@@ -9,31 +9,31 @@ use borrow.Author.Tests.{leb-true, eqb-true, le-leb, eq-eqb, ne_eqb, lt-ltb, le-
 use Rattle.meaning.specs.Refusals.{first_of}
 use Rattle.meaning.proofs.Tests.{both_true}
 use Rattle.table.specs.File.{between}
-use Rattle.places.specs.Places.{workLength}
+use Rattle.places.specs.Places.{work_length}
 use Rattle.order.specs.declared.Place.{Place}
 use Rattle.order.specs.declared.Place.TheVariants.{Fine, At}
-use Rattle.order.specs.Order.{firstFault}
+use Rattle.order.specs.Order.{first_fault}
 use Rattle.answers.specs.declared.Record.{Record}
 use Rattle.answers.specs.declared.Refusal.TheVariants as why
-use Rattle.judge.specs.Judging.{callLines, sizesRight, recordRight, faultOf}
+use Rattle.judge.specs.Judging.{call_lines, sizes_right, record_right, fault_of}
 use Rattle.judge.specs.declared.Judged.{Judged}
 use Rattle.judge.specs.declared.Judged.TheVariants as judged
 
 -- The sizes are in range, and work memory has the length that they fix.
 pub record Sized (rows allowed size : ℕ) : Type 0 where
-  pub few-rows : rows ≤ 64
-  pub few-levels : allowed ≤ 40
-  pub long : size ≡ workLength rows allowed
+  pub few_rows : rows ≤ 64
+  pub few_levels : allowed ≤ 40
+  pub long : size ≡ work_length rows allowed
 
-pub sized : (rows allowed size : ℕ) → sizesRight rows allowed size ≡ true → Sized rows allowed size
+pub sized : (rows allowed size : ℕ) → sizes_right rows allowed size ≡ true → Sized rows allowed size
 sized rows allowed size e =
-    let long : Bool = eqb size (workLength rows allowed) in
+    let long : Bool = eqb size (work_length rows allowed) in
     let h = both_true (between 1 64 rows) (between 1 40 allowed && long) e in
     let g = both_true (between 1 40 allowed) long h.1 in
     record {
-      few-rows = leb-true rows 64 (both_true (leb 1 rows) (leb rows 64) h.0).1;
-      few-levels = leb-true allowed 40 (both_true (leb 1 allowed) (leb allowed 40) g.0).1;
-      long = eqb-true size (workLength rows allowed) g.1;
+      few_rows = leb-true rows 64 (both_true (leb 1 rows) (leb rows 64) h.0).1;
+      few_levels = leb-true allowed 40 (both_true (leb 1 allowed) (leb allowed 40) g.0).1;
+      long = eqb-true size (work_length rows allowed) g.1;
     }
 
 -- The record's counts are within what it allows.
@@ -42,7 +42,7 @@ pub record Within (r : Record) : Type 0 where
   pub deep : r.depth ≤ r.allowed
   pub numbered : r.positions ≤ 2147483647
 
-pub within : (r : Record) → recordRight r ≡ true → Within r
+pub within : (r : Record) → record_right r ≡ true → Within r
 within r e =
     let last : Bool = not r.finished || (eqb r.depth 0 && eqb r.alive 0) in
     let numbered : Bool = leb r.positions 2147483647 in
@@ -56,35 +56,35 @@ within r e =
     }
 
 -- Where the counts are within it, the last test decides.
-record-last : (r : Record) → Within r → recordRight r ≡ (not r.finished || (eqb r.depth 0 && eqb r.alive 0))
-record-last r w =
+record_last : (r : Record) → Within r → record_right r ≡ (not r.finished || (eqb r.depth 0 && eqb r.alive 0))
+record_last r w =
     rw (
       le-leb r.alive r.rows w.room,
       le-leb r.depth r.allowed w.deep,
       le-leb r.positions 2147483647 w.numbered,
     )
 
-pub right-unfinished : (r : Record) → Within r → not r.finished ≡ true → not r.finished ≡ recordRight r
-right-unfinished r w e = e ∙ sym (record-last r w ∙ (rw e))
+pub right_unfinished : (r : Record) → Within r → not r.finished ≡ true → not r.finished ≡ record_right r
+right_unfinished r w e = e ∙ sym (record_last r w ∙ (rw e))
 
-pub right-at-rest : (r : Record) → Within r → not r.finished ≡ false → r.depth ≡ 0 → eqb r.alive 0 ≡ recordRight r
-right-at-rest r w e d = sym (record-last r w ∙ (rw (e, eq-eqb r.depth 0 d)))
+pub right_at_rest : (r : Record) → Within r → not r.finished ≡ false → r.depth ≡ 0 → eqb r.alive 0 ≡ record_right r
+right_at_rest r w e d = sym (record_last r w ∙ (rw (e, eq-eqb r.depth 0 d)))
 
-pub right-open : (r : Record) → Within r → not r.finished ≡ false → (r.depth ≡ 0 → ⊥) → eqb r.depth 0 ≡ recordRight r
-right-open r w e d = sym (record-last r w ∙ (rw (e, ne_eqb r.depth 0 d)))
+pub right_open : (r : Record) → Within r → not r.finished ≡ false → (r.depth ≡ 0 → ⊥) → eqb r.depth 0 ≡ record_right r
+right_open r w e d = sym (record_last r w ∙ (rw (e, ne_eqb r.depth 0 d)))
 
 -- The rows in use, either way.
-pub used-none : (b : Bool) (used alive : ℕ) → b ≡ true → used ≡ 0 → used ≡ cond b 0 (alive + 1)
-used-none b used alive e h = rw e h
+pub used_none : (b : Bool) (used alive : ℕ) → b ≡ true → used ≡ 0 → used ≡ cond b 0 (alive + 1)
+used_none b used alive e h = rw e h
 
-pub used-some : (b : Bool) (used alive : ℕ) → b ≡ false → used ≡ alive + 1 → used ≡ cond b 0 (alive + 1)
-used-some b used alive e h = rw e h
+pub used_some : (b : Bool) (used alive : ℕ) → b ≡ false → used ≡ alive + 1 → used ≡ cond b 0 (alive + 1)
+used_some b used alive e h = rw e h
 
 -- Where the record by itself is in order, the words decide.
 pub fault-words :
-    (r : Record) (n k : ℕ) (work : List ℕ) (used : ℕ) (p : Place) → recordRight r ≡ true → used ≡ cond r.finished 0 (r.alive + 1) →
+    (r : Record) (n k : ℕ) (work : List ℕ) (used : ℕ) (p : Place) → record_right r ≡ true → used ≡ cond r.finished 0 (r.alive + 1) →
     p
-    ≡ firstFault
+    ≡ first_fault
     record {
       rows = r.rows + 1;
       allowed = r.allowed;
@@ -95,26 +95,26 @@ pub fault-words :
       labels = k;
     }
     work →
-    p ≡ faultOf r n k work
+    p ≡ fault_of r n k work
 fault-words r n k work used p e u h = rw e (rw u at h)
 
 module _ (n k : ℕ) (r : Record) (work : List ℕ) (reports : ℕ) where
   abbrev call : Judged
-  call = first_of (callLines n k r work reports) judged.Fine
+  call = first_of (call_lines n k r work reports) judged.Fine
 
-  pub sizes-stand : sizesRight r.rows r.allowed (length work) ≡ false → judged.Refused why.Sizes ≡ call
-  sizes-stand e = rw e
+  pub sizes_stand : sizes_right r.rows r.allowed (length work) ≡ false → judged.Refused why.Sizes ≡ call
+  sizes_stand e = rw e
 
-  module _ (e : sizesRight r.rows r.allowed (length work) ≡ true) where
-    pub reports-stand : reports < r.rows + 1 → judged.Refused why.Sizes ≡ call
-    reports-stand l = rw (e, lt-ltb reports (r.rows + 1) l)
+  module _ (e : sizes_right r.rows r.allowed (length work) ≡ true) where
+    pub reports_stand : reports < r.rows + 1 → judged.Refused why.Sizes ≡ call
+    reports_stand l = rw (e, lt-ltb reports (r.rows + 1) l)
 
     module _ (l : r.rows + 1 ≤ reports) where
-      pub order-stands : (at : ℕ) → faultOf r n k work ≡ At at → judged.Refused (why.Order at) ≡ call
-      order-stands at h = rw (e, le-ltb reports (r.rows + 1) l, h)
+      pub order_stands : (at : ℕ) → fault_of r n k work ≡ At at → judged.Refused (why.Order at) ≡ call
+      order_stands at h = rw (e, le-ltb reports (r.rows + 1) l, h)
 
-      pub finished-stands : faultOf r n k work ≡ Fine → r.finished ≡ true → judged.Refused why.Finished ≡ call
-      finished-stands h g = rw (e, le-ltb reports (r.rows + 1) l, h, g)
+      pub finished_stands : fault_of r n k work ≡ Fine → r.finished ≡ true → judged.Refused why.Finished ≡ call
+      finished_stands h g = rw (e, le-ltb reports (r.rows + 1) l, h, g)
 
-      pub none-stands : faultOf r n k work ≡ Fine → r.finished ≡ false → judged.Fine ≡ call
-      none-stands h g = rw (e, le-ltb reports (r.rows + 1) l, h, g)
+      pub none_stands : fault_of r n k work ≡ Fine → r.finished ≡ false → judged.Fine ≡ call
+      none_stands h g = rw (e, le-ltb reports (r.rows + 1) l, h, g)

@@ -7,39 +7,39 @@ use native.Mathlib.Omega.{arith}
 use lib.Dec.{ltb}
 use lib.ListN.{length}
 use borrow.Author.Tests.{ltb-false, leb-false, eqb-false, not-false}
-use Rattle.meaning.specs.Refusals.{first_of, appliesAt}
-use Rattle.bodies.specs.Sound.{Sound, statesIn, labelsIn}
-use Rattle.table.specs.File.{isShort, headerRight, contentsRight, lengthRight, bodiesRight, reading_of}
+use Rattle.meaning.specs.Refusals.{first_of, applies_at}
+use Rattle.bodies.specs.Sound.{Sound, states_in, labels_in}
+use Rattle.table.specs.File.{is_short, header_right, contents_right, length_right, bodies_right, reading_of}
 use Rattle.table.specs.declared.Reading.TheVariants.{Taken}
 use Rattle.table.proofs.Sound.{taken-is-sound}
-use Rattle.places.specs.Places.{workLength}
+use Rattle.places.specs.Places.{work_length}
 use Rattle.order.specs.declared.Place.{Place}
 use Rattle.order.specs.declared.Place.TheVariants.{Fine, At}
-use Rattle.order.specs.Order.{firstFault}
+use Rattle.order.specs.Order.{first_fault}
 use Rattle.answers.specs.declared.Record.{Record}
 use Rattle.answers.specs.declared.Event.{Event}
 use Rattle.answers.specs.declared.Event.TheVariants.{Open, Point, Close, CloseOf, End, Unknown}
-use Rattle.judge.specs.Judging.{judgedNumber, callLines, judgedLines, startLines, sizesRight, recordRight, shape_of, faultOf, isFault}
+use Rattle.judge.specs.Judging.{judged_number, call_lines, judged_lines, start_lines, sizes_right, record_right, shape_of, fault_of, is_fault}
 use Rattle.judge.specs.declared.Judged.TheVariants as judged
 use Rattle.judge.proofs.Laws.{sized, within}
 use Rattle.judge.proofs.Numbers.{judged-none, call_none, start_none}
 
 -- What a call that passed 6 to 8 has, for a table with n states and k labels.
 pub record Called (n k : ℕ) (r : Record) (work : List ℕ) (reports : ℕ) : Type 0 where
-  pub few-rows : r.rows ≤ 64
-  pub few-levels : r.allowed ≤ 40
-  pub size : length work ≡ workLength r.rows r.allowed
+  pub few_rows : r.rows ≤ 64
+  pub few_levels : r.allowed ≤ 40
+  pub size : length work ≡ work_length r.rows r.allowed
   pub enough : r.rows < reports
   pub room : r.alive ≤ r.rows
   pub deep : r.depth ≤ r.allowed
   pub numbered : r.positions ≤ 2147483647
-  pub in_order : firstFault (shape_of r n k) work ≡ Fine
+  pub in_order : first_fault (shape_of r n k) work ≡ Fine
   pub going_on : r.finished ≡ false
 
 -- What a call that passed 1 to 8 has.
 pub record Passed (f : List ℕ) (r : Record) (work : List ℕ) (reports : ℕ) : Type 0 where
   pub sound : Sound f
-  pub called : Called (statesIn f) (labelsIn f) r work reports
+  pub called : Called (states_in f) (labels_in f) r work reports
 
 -- What an event has that passed the lines after those, for a table with k labels.
 abbrev pub EventPassed : ℕ → Record → Event → Type 0
@@ -53,45 +53,45 @@ EventPassed k r Unknown = ⊥
 -- What a start that passed 1 to 6 has.
 pub record StartPassed (f : List ℕ) (rows allowed size : ℕ) : Type 0 where
   pub sound : Sound f
-  pub few-rows : rows ≤ 64
-  pub few-levels : allowed ≤ 40
-  pub size_is : size ≡ workLength rows allowed
+  pub few_rows : rows ≤ 64
+  pub few_levels : allowed ≤ 40
+  pub size_is : size ≡ work_length rows allowed
 
 -- A file to which none of the table's lines applies.
 sound-file :
-    (f : List ℕ) → isShort f ≡ false → not (headerRight f) ≡ false → not (contentsRight f) ≡ false → not (lengthRight f) ≡ false →
-    not (bodiesRight f) ≡ false → Sound f
+    (f : List ℕ) → is_short f ≡ false → not (header_right f) ≡ false → not (contents_right f) ≡ false → not (length_right f) ≡ false →
+    not (bodies_right f) ≡ false → Sound f
 sound-file f a b c d e =
-    let taken : reading_of f ≡ Taken (statesIn f) (labelsIn f) = rw (a, b, c, d, e) in
-    (taken-is-sound f (statesIn f) (labelsIn f) taken).0
+    let taken : reading_of f ≡ Taken (states_in f) (labels_in f) = rw (a, b, c, d, e) in
+    (taken-is-sound f (states_in f) (labels_in f) taken).0
 
 pub neither : (a b : Bool) → (a || b) ≡ false → (a ≡ false) × (b ≡ false)
 neither true b e = absurd (true≢false e)
 neither false b e = (refl, e)
 
-no-fault : (p : Place) → isFault p ≡ false → p ≡ Fine
-no-fault Fine e = refl
-no-fault (At place) e = absurd (true≢false e)
+no_fault : (p : Place) → is_fault p ≡ false → p ≡ Fine
+no_fault Fine e = refl
+no_fault (At place) e = absurd (true≢false e)
 
 -- No fault is found: the record by itself is in order, and so are the words.
 both_right : (b : Bool) (p : Place) (at : ℕ) → cond b p (At at) ≡ Fine → (b ≡ true) × (p ≡ Fine)
 both_right true p at e = (refl, e)
-both_right false p at e = absurd (true≢false (ap isFault e))
+both_right false p at e = absurd (true≢false (ap is_fault e))
 
 module _ (n k : ℕ) (r : Record) (work : List ℕ) (reports : ℕ) where
   -- None of 6 to 8 applies.
   none-called :
-      not (sizesRight r.rows r.allowed (length work)) || ltb reports (r.rows + 1) ≡ false → isFault (faultOf r n k work) ≡ false →
+      not (sizes_right r.rows r.allowed (length work)) || ltb reports (r.rows + 1) ≡ false → is_fault (fault_of r n k work) ≡ false →
       r.finished ≡ false → Called n k r work reports
   none-called sizes order going =
-      let both = neither (not (sizesRight r.rows r.allowed (length work))) (ltb reports (r.rows + 1)) sizes in
-      let s = sized r.rows r.allowed (length work) (not-false (sizesRight r.rows r.allowed (length work)) both.0) in
+      let both = neither (not (sizes_right r.rows r.allowed (length work))) (ltb reports (r.rows + 1)) sizes in
+      let s = sized r.rows r.allowed (length work) (not-false (sizes_right r.rows r.allowed (length work)) both.0) in
       let enough : r.rows + 1 ≤ reports = ltb-false reports (r.rows + 1) both.1 in
-      let fine = both_right (recordRight r) (firstFault (shape_of r n k) work) (length work) (no-fault (faultOf r n k work) order) in
+      let fine = both_right (record_right r) (first_fault (shape_of r n k) work) (length work) (no_fault (fault_of r n k work) order) in
       let w = within r fine.0 in
       record {
-        few-rows = s.few-rows;
-        few-levels = s.few-levels;
+        few_rows = s.few_rows;
+        few_levels = s.few_levels;
         size = s.long;
         enough = omega (arith, enough);
         room = w.room;
@@ -101,33 +101,33 @@ module _ (n k : ℕ) (r : Record) (work : List ℕ) (reports : ℕ) where
         going_on = going;
       }
 
-  pub call-passed : first_of (callLines n k r work reports) judged.Fine ≡ judged.Fine → Called n k r work reports
-  call-passed h =
-      let none = (call_none n k r work reports).0 (ap judgedNumber h) in
+  pub call_passed : first_of (call_lines n k r work reports) judged.Fine ≡ judged.Fine → Called n k r work reports
+  call_passed h =
+      let none = (call_none n k r work reports).0 (ap judged_number h) in
       none-called (none 0) (none 1) (none 2)
 
 module _ (f work : List ℕ) (r : Record) (reports : ℕ) (e : Event) where
   -- No line applies.
-  none : first_of (judgedLines f r work reports e) judged.Fine ≡ judged.Fine → (i : ℕ) → appliesAt (judgedLines f r work reports e) i ≡ false
-  none h = (judged-none f r work reports e).0 (ap judgedNumber h)
+  none : first_of (judged_lines f r work reports e) judged.Fine ≡ judged.Fine → (i : ℕ) → applies_at (judged_lines f r work reports e) i ≡ false
+  none h = (judged-none f r work reports e).0 (ap judged_number h)
 
-  pub passed : first_of (judgedLines f r work reports e) judged.Fine ≡ judged.Fine → Passed f r work reports
+  pub passed : first_of (judged_lines f r work reports e) judged.Fine ≡ judged.Fine → Passed f r work reports
   passed h =
       let n = none h in
       record {
         sound = sound-file f (n 0) (n 1) (n 2) (n 3) (n 4);
-        called = none-called (statesIn f) (labelsIn f) r work reports (n 5) (n 6) (n 7);
+        called = none-called (states_in f) (labels_in f) r work reports (n 5) (n 6) (n 7);
       }
 
 pub event-passed :
-    (f work : List ℕ) (r : Record) (reports : ℕ) (e : Event) → first_of (judgedLines f r work reports e) judged.Fine ≡ judged.Fine →
-    EventPassed (labelsIn f) r e
+    (f work : List ℕ) (r : Record) (reports : ℕ) (e : Event) → first_of (judged_lines f r work reports e) judged.Fine ≡ judged.Fine →
+    EventPassed (labels_in f) r e
 event-passed f work r reports (Open a) h =
     let n = none f work r reports (Open a) h in
-    (leb-false (labelsIn f) a (n 9), leb-false r.allowed r.depth (n 12), leb-false 2147483647 r.positions (n 14))
+    (leb-false (labels_in f) a (n 9), leb-false r.allowed r.depth (n 12), leb-false 2147483647 r.positions (n 14))
 event-passed f work r reports (Point a) h =
     let n = none f work r reports (Point a) h in
-    (leb-false (labelsIn f) a (n 9), leb-false 2147483647 r.positions (n 14))
+    (leb-false (labels_in f) a (n 9), leb-false 2147483647 r.positions (n 14))
 event-passed f work r reports Close h =
     let open-some : r.depth ≡ 0 → ⊥ = eqb-false r.depth 0 (none f work r reports Close h 10) in
     omega (arith, open-some)
@@ -140,14 +140,14 @@ event-passed f work r reports End h =
 event-passed f work r reports Unknown h = absurd (true≢false (none f work r reports Unknown h 8))
 
 pub start-passed :
-    (f : List ℕ) (rows allowed size : ℕ) → first_of (startLines f rows allowed size) judged.Fine ≡ judged.Fine →
+    (f : List ℕ) (rows allowed size : ℕ) → first_of (start_lines f rows allowed size) judged.Fine ≡ judged.Fine →
     StartPassed f rows allowed size
 start-passed f rows allowed size h =
-    let n = (start_none f rows allowed size).0 (ap judgedNumber h) in
-    let s = sized rows allowed size (not-false (sizesRight rows allowed size) (n 5)) in
+    let n = (start_none f rows allowed size).0 (ap judged_number h) in
+    let s = sized rows allowed size (not-false (sizes_right rows allowed size) (n 5)) in
     record {
       sound = sound-file f (n 0) (n 1) (n 2) (n 3) (n 4);
-      few-rows = s.few-rows;
-      few-levels = s.few-levels;
+      few_rows = s.few_rows;
+      few_levels = s.few_levels;
       size_is = s.long;
     }

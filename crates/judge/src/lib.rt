@@ -3,10 +3,10 @@
 // The outer functions here take any table, record, words and event.
 ghost use Rattle.std.specs.Prelude.{◌≡◌, ℕ, ◌+◌, ◌≤◌, length};
 ghost use Rattle.meaning.specs.Refusals.{first_of};
-ghost use Rattle.places.specs.Places.{workLength};
-ghost use Rattle.judge.specs.Judging.{callLines, eventLines, judgedLines, startLines};
-ghost use Rattle.judge.specs.Clear.{clearLines};
-ghost use Rattle.judge.specs.Judging.{sizesRight, recordRight, faultOf, newestWord};
+ghost use Rattle.places.specs.Places.{work_length};
+ghost use Rattle.judge.specs.Judging.{call_lines, event_lines, judged_lines, start_lines};
+ghost use Rattle.judge.specs.Clear.{clear_lines};
+ghost use Rattle.judge.specs.Judging.{sizes_right, record_right, fault_of, newest_word};
 
 use answers::{Event, Record, Refusal};
 use order::{Place, Shape};
@@ -21,7 +21,7 @@ pub enum Judged {
 
 // Line 6 of a start, passed: rows and depth allowed in range, and work memory of the length that they fix.
 fn sizes_right(rows: u64, allowed: u64, size: usize) -> bool
-    ensures { result ≡ sizesRight rows allowed size }
+    ensures { result ≡ sizes_right rows allowed size }
 {
     if rows < 1 || 64 < rows {
         return false;
@@ -34,7 +34,7 @@ fn sizes_right(rows: u64, allowed: u64, size: usize) -> bool
 
 // Is the record by itself in order?
 fn record_right(r: Record) -> bool
-    ensures { result ≡ recordRight r }
+    ensures { result ≡ record_right r }
 {
     if r.rows < r.alive || r.allowed < r.depth || 2147483647 < r.positions {
         return false;
@@ -44,8 +44,8 @@ fn record_right(r: Record) -> bool
 
 // The first word of work memory that is out of order; its length where the record by itself is.
 fn fault(r: Record, n: u64, k: u64, work: &[u64]) -> Place
-    requires { (r.rows ≤ 64) × (r.allowed ≤ 40) × (length work.now ≡ workLength r.rows r.allowed) }
-    ensures { result ≡ faultOf r n k work.now }
+    requires { (r.rows ≤ 64) × (r.allowed ≤ 40) × (length work.now ≡ work_length r.rows r.allowed) }
+    ensures { result ≡ fault_of r n k work.now }
 {
     if !record_right(r) {
         return Place::At(work.len());
@@ -67,7 +67,7 @@ fn fault(r: Record, n: u64, k: u64, work: &[u64]) -> Place
 
 // 6 to 8, for a table of n states and k labels.
 fn judge_call(n: u64, k: u64, r: Record, work: &[u64], reports: usize) -> Judged
-    ensures { result ≡ first_of (callLines n k r work.now reports) Judged.Fine }
+    ensures { result ≡ first_of (call_lines n k r work.now reports) Judged.Fine }
 {
     if !sizes_right(r.rows, r.allowed, work.len()) {
         return Judged::Refused(Refusal::Sizes);
@@ -87,7 +87,7 @@ fn judge_call(n: u64, k: u64, r: Record, work: &[u64], reports: usize) -> Judged
 
 // 10, 12 and 14, of an open.
 fn judge_open(k: u64, r: Record, a: u64) -> Judged
-    ensures { (x : ℕ) → result ≡ first_of (eventLines k r x (Event.Open a)) Judged.Fine }
+    ensures { (x : ℕ) → result ≡ first_of (event_lines k r x (Event.Open a)) Judged.Fine }
 {
     if k <= a {
         return Judged::Refused(Refusal::Label);
@@ -103,7 +103,7 @@ fn judge_open(k: u64, r: Record, a: u64) -> Judged
 
 // 10 and 14, of a point.
 fn judge_point(k: u64, r: Record, a: u64) -> Judged
-    ensures { (x : ℕ) → result ≡ first_of (eventLines k r x (Event.Point a)) Judged.Fine }
+    ensures { (x : ℕ) → result ≡ first_of (event_lines k r x (Event.Point a)) Judged.Fine }
 {
     if k <= a {
         return Judged::Refused(Refusal::Label);
@@ -116,8 +116,8 @@ fn judge_point(k: u64, r: Record, a: u64) -> Judged
 
 // 10, 11 and 16, of a close that names a label.
 fn judge_close_of(k: u64, r: Record, work: &[u64], a: u64) -> Judged
-    requires { (r.rows ≤ 64) × (r.allowed ≤ 40) × (r.depth ≤ r.allowed) × (length work.now ≡ workLength r.rows r.allowed) }
-    ensures { result ≡ first_of (eventLines k r (newestWord r work.now) (Event.CloseOf a)) Judged.Fine }
+    requires { (r.rows ≤ 64) × (r.allowed ≤ 40) × (r.depth ≤ r.allowed) × (length work.now ≡ work_length r.rows r.allowed) }
+    ensures { result ≡ first_of (event_lines k r (newest_word r work.now) (Event.CloseOf a)) Judged.Fine }
 {
     if k <= a {
         return Judged::Refused(Refusal::Label);
@@ -135,8 +135,8 @@ fn judge_close_of(k: u64, r: Record, work: &[u64], a: u64) -> Judged
 
 // 9 to 14 and 16, for a table of k labels.
 pub fn judge_event(k: u64, r: Record, work: &[u64], event: Event) -> Judged
-    requires { (r.rows ≤ 64) × (r.allowed ≤ 40) × (r.depth ≤ r.allowed) × (length work.now ≡ workLength r.rows r.allowed) }
-    ensures { result ≡ first_of (eventLines k r (newestWord r work.now) event) Judged.Fine }
+    requires { (r.rows ≤ 64) × (r.allowed ≤ 40) × (r.depth ≤ r.allowed) × (length work.now ≡ work_length r.rows r.allowed) }
+    ensures { result ≡ first_of (event_lines k r (newest_word r work.now) event) Judged.Fine }
 {
     match event {
         Event::Open(a) => judge_open(k, r, a),
@@ -162,7 +162,7 @@ pub fn judge_event(k: u64, r: Record, work: &[u64], event: Event) -> Judged
 
 // 1 to 8 of an event; `reports` is the length of the reports' slice.
 pub fn judge_lent(table: &[u8], r: Record, work: &[u64], reports: usize) -> Judged
-    ensures { result ≡ first_of (clearLines table.now r work.now reports) Judged.Fine }
+    ensures { result ≡ first_of (clear_lines table.now r work.now reports) Judged.Fine }
 {
     let reading = table::read(table);
     match reading {
@@ -173,7 +173,7 @@ pub fn judge_lent(table: &[u8], r: Record, work: &[u64], reports: usize) -> Judg
 
 // All of an event's but the last; `reports` is the length of the reports' slice.
 pub fn judge(table: &[u8], r: Record, work: &[u64], reports: usize, event: Event) -> Judged
-    ensures { result ≡ first_of (judgedLines table.now r work.now reports event) Judged.Fine }
+    ensures { result ≡ first_of (judged_lines table.now r work.now reports event) Judged.Fine }
 {
     let reading = table::read(table);
     match reading {
@@ -190,7 +190,7 @@ pub fn judge(table: &[u8], r: Record, work: &[u64], reports: usize, event: Event
 
 // 1 to 6, of a start; `size` is the length of work memory.
 pub fn judge_start(table: &[u8], rows: u64, allowed: u64, size: usize) -> Judged
-    ensures { result ≡ first_of (startLines table.now rows allowed size) Judged.Fine }
+    ensures { result ≡ first_of (start_lines table.now rows allowed size) Judged.Fine }
 {
     let reading = table::read(table);
     match reading {

@@ -7,11 +7,11 @@ use Rattle.answers.specs.declared.Answer.{Answer}
 use Rattle.answers.specs.declared.Outcome.{Outcome}
 use Rattle.answers.specs.declared.Outcome.TheVariants.{Taken, Refused}
 use Rattle.answers.specs.declared.Refusal.TheVariants as why
-use Rattle.answers.specs.Answers.{outcomeNumber}
+use Rattle.answers.specs.Answers.{outcome_number}
 use Rattle.judge.specs.declared.Judged.{Judged}
-use Rattle.judge.specs.Judging.{refuses, tableLines, sizesRight}
-use Rattle.engine.specs.Calls.{startAnswer, startWork, eventAnswer, eventWork, eventReports}
-use Rattle.link.specs.Words.{recordWords, recordIn, answerWords}
+use Rattle.judge.specs.Judging.{refuses, table_lines, sizes_right}
+use Rattle.engine.specs.Calls.{start_answer, start_work, event_answer, event_work, event_reports}
+use Rattle.link.specs.Words.{record_words, record_in, answer_words}
 
 -- The record has six words and the answer four.
 abbrev pub fitting : List ℕ → List ℕ → Bool
@@ -19,58 +19,58 @@ fitting words answer = eqb (length words) 6 && eqb (length answer) 4
 
 ---------------------------------------------------------------- the start call
 
-abbrev pub startNumber : List ℕ → ℕ → ℕ → List ℕ → List ℕ → List ℕ → ℕ
-startNumber f rows depth work words answer =
-    cond (fitting words answer) (outcomeNumber (startAnswer f rows depth work).outcome) 100
+abbrev pub start_number : List ℕ → ℕ → ℕ → List ℕ → List ℕ → List ℕ → ℕ
+start_number f rows depth work words answer =
+    cond (fitting words answer) (outcome_number (start_answer f rows depth work).outcome) 100
 
-abbrev pub startLeavesWork : List ℕ → ℕ → ℕ → List ℕ → List ℕ → List ℕ → List ℕ
-startLeavesWork f rows depth work words answer = cond (fitting words answer) (startWork f rows depth work) work
+abbrev pub start_leaves_work : List ℕ → ℕ → ℕ → List ℕ → List ℕ → List ℕ → List ℕ
+start_leaves_work f rows depth work words answer = cond (fitting words answer) (start_work f rows depth work) work
 
 -- The first record, and zeros where the start is refused.
-abbrev pub startLeavesRecord : List ℕ → ℕ → ℕ → List ℕ → List ℕ → List ℕ → List ℕ
-startLeavesRecord f rows depth work words answer =
-    cond (fitting words answer) (recordWords (startAnswer f rows depth work).next) words
+abbrev pub start_leaves_record : List ℕ → ℕ → ℕ → List ℕ → List ℕ → List ℕ → List ℕ
+start_leaves_record f rows depth work words answer =
+    cond (fitting words answer) (record_words (start_answer f rows depth work).next) words
 
-abbrev pub startLeavesAnswer : List ℕ → ℕ → ℕ → List ℕ → List ℕ → List ℕ → List ℕ
-startLeavesAnswer f rows depth work words answer =
-    cond (fitting words answer) (answerWords (startAnswer f rows depth work).outcome) answer
+abbrev pub start_leaves_answer : List ℕ → ℕ → ℕ → List ℕ → List ℕ → List ℕ → List ℕ
+start_leaves_answer f rows depth work words answer =
+    cond (fitting words answer) (answer_words (start_answer f rows depth work).outcome) answer
 
 ---------------------------------------------------------------- the event call
 
 -- The words of the next record where the event is taken, and the given ones where it is refused.
-abbrev pub nextWords : Outcome → Record → List ℕ → List ℕ
-nextWords (Taken reports) next words = recordWords next
-nextWords (Refused reason) next words = words
+abbrev pub next_words : Outcome → Record → List ℕ → List ℕ
+next_words (Taken reports) next words = record_words next
+next_words (Refused reason) next words = words
 
 -- What the watch answers to an event for the record that the words stand for.
 abbrev pub answered : List ℕ → List ℕ → List ℕ → List ℕ → ℕ → Answer
-answered f words work reports byte = eventAnswer f (recordIn words) work reports byte
+answered f words work reports byte = event_answer f (record_in words) work reports byte
 
-abbrev pub eventNumber : List ℕ → List ℕ → List ℕ → List ℕ → ℕ → List ℕ → ℕ
-eventNumber f words work reports byte answer =
-    cond (fitting words answer) (outcomeNumber (answered f words work reports byte).outcome) 100
+abbrev pub event_number : List ℕ → List ℕ → List ℕ → List ℕ → ℕ → List ℕ → ℕ
+event_number f words work reports byte answer =
+    cond (fitting words answer) (outcome_number (answered f words work reports byte).outcome) 100
 
-abbrev pub eventLeavesRecord : List ℕ → List ℕ → List ℕ → List ℕ → ℕ → List ℕ → List ℕ
-eventLeavesRecord f words work reports byte answer =
+abbrev pub event_leaves_record : List ℕ → List ℕ → List ℕ → List ℕ → ℕ → List ℕ → List ℕ
+event_leaves_record f words work reports byte answer =
     let x = answered f words work reports byte in
-    cond (fitting words answer) (nextWords x.outcome x.next words) words
+    cond (fitting words answer) (next_words x.outcome x.next words) words
 
-abbrev pub eventLeavesWork : List ℕ → List ℕ → List ℕ → List ℕ → ℕ → List ℕ → List ℕ
-eventLeavesWork f words work reports byte answer =
-    cond (fitting words answer) (eventWork f (recordIn words) work reports byte) work
+abbrev pub event_leaves_work : List ℕ → List ℕ → List ℕ → List ℕ → ℕ → List ℕ → List ℕ
+event_leaves_work f words work reports byte answer =
+    cond (fitting words answer) (event_work f (record_in words) work reports byte) work
 
-abbrev pub eventLeavesReports : List ℕ → List ℕ → List ℕ → List ℕ → ℕ → List ℕ → List ℕ
-eventLeavesReports f words work reports byte answer =
-    cond (fitting words answer) (eventReports f (recordIn words) work reports byte) reports
+abbrev pub event_leaves_reports : List ℕ → List ℕ → List ℕ → List ℕ → ℕ → List ℕ → List ℕ
+event_leaves_reports f words work reports byte answer =
+    cond (fitting words answer) (event_reports f (record_in words) work reports byte) reports
 
-abbrev pub eventLeavesAnswer : List ℕ → List ℕ → List ℕ → List ℕ → ℕ → List ℕ → List ℕ
-eventLeavesAnswer f words work reports byte answer =
-    cond (fitting words answer) (answerWords (answered f words work reports byte).outcome) answer
+abbrev pub event_leaves_answer : List ℕ → List ℕ → List ℕ → List ℕ → ℕ → List ℕ → List ℕ
+event_leaves_answer f words work reports byte answer =
+    cond (fitting words answer) (answer_words (answered f words work reports byte).outcome) answer
 
 -- Refusals 1 to 6 of an event: they ask nothing of the record but its rows and depth allowed, the first two words.
-abbrev pub firstSix : List ℕ → List ℕ → List ℕ → List ℕ → List (Line Judged)
-firstSix f words work reports =
+abbrev pub first_six : List ℕ → List ℕ → List ℕ → List ℕ → List (Line Judged)
+first_six f words work reports =
     let rows = get_or words 0 0 in
     let allowed = get_or words 1 0 in
-    tableLines f
-    ++ (refuses (not (sizesRight rows allowed (length work)) || ltb (length reports) (rows + 1)) why.Sizes ∷ [])
+    table_lines f
+    ++ (refuses (not (sizes_right rows allowed (length work)) || ltb (length reports) (rows + 1)) why.Sizes ∷ [])

@@ -7,13 +7,13 @@ use Rattle.answers.specs.declared.Place.{Place}
 use Rattle.answers.specs.Answers.{nowhere, place_of}
 
 -- A record as six words: rows, depth allowed, depth now, alive, positions read, and 1 where finished, else 0.
-abbrev pub recordWords : Record → List ℕ
-recordWords r = r.rows ∷ r.allowed ∷ r.depth ∷ r.alive ∷ r.positions ∷ cond r.finished 1 0 ∷ []
+abbrev pub record_words : Record → List ℕ
+record_words r = r.rows ∷ r.allowed ∷ r.depth ∷ r.alive ∷ r.positions ∷ cond r.finished 1 0 ∷ []
 
 -- The record that six words stand for. A sixth word above 1 stands for no record: it is taken for one that is by itself
 -- out of order, with more positions read than the greatest, so that the event call refuses it as such.
-abbrev pub recordIn : List ℕ → Record
-recordIn words =
+abbrev pub record_in : List ℕ → Record
+record_in words =
     record {
       rows = get_or words 0 0;
       allowed = get_or words 1 0;
@@ -24,9 +24,9 @@ recordIn words =
     }
 
 -- An answer of four words: the number of reports, and the three of a place.
-abbrev pub fourWords : ℕ → Place → List ℕ
-fourWords reports place = reports ∷ place.word ∷ place.part ∷ place.inside ∷ []
+abbrev pub four_words : ℕ → Place → List ℕ
+four_words reports place = reports ∷ place.word ∷ place.part ∷ place.inside ∷ []
 
-abbrev pub answerWords : Outcome → List ℕ
-answerWords (Taken reports) = fourWords reports nowhere
-answerWords (Refused reason) = fourWords 0 (place_of reason)
+abbrev pub answer_words : Outcome → List ℕ
+answer_words (Taken reports) = four_words reports nowhere
+answer_words (Refused reason) = four_words 0 (place_of reason)

@@ -4,9 +4,9 @@
 // Neither call assumes anything of its caller but what no slice can show: each pointer points to as many elements as its
 // length says and is not null, and the lent memories do not overlap.
 ghost use Rattle.std.specs.Prelude.{◌≡◌, length};
-ghost use Rattle.link.specs.Words.{recordWords, recordIn, fourWords, answerWords};
-ghost use Rattle.link.specs.Linked.{fitting, startNumber, startLeavesWork, startLeavesRecord, startLeavesAnswer};
-ghost use Rattle.link.specs.Linked.{nextWords, eventNumber, eventLeavesRecord, eventLeavesWork, eventLeavesReports, eventLeavesAnswer};
+ghost use Rattle.link.specs.Words.{record_words, record_in, four_words, answer_words};
+ghost use Rattle.link.specs.Linked.{fitting, start_number, start_leaves_work, start_leaves_record, start_leaves_answer};
+ghost use Rattle.link.specs.Linked.{next_words, event_number, event_leaves_record, event_leaves_work, event_leaves_reports, event_leaves_answer};
 
 use answers::{Outcome, Place, Record};
 
@@ -21,7 +21,7 @@ fn fits(words: &[u64], answer: &[u64]) -> bool
 // of order, and the event call refuses it in its turn.
 fn record_in(words: &[u64]) -> Record
     requires { length words.now ≡ 6 }
-    ensures { result ≡ recordIn words.now }
+    ensures { result ≡ record_in words.now }
 {
     let finished = words[5];
     let positions = if finished > 1 { 2147483648 } else { words[4] };
@@ -37,7 +37,7 @@ fn record_in(words: &[u64]) -> Record
 
 fn put_record(words: &mut [u64], r: Record)
     requires { length words.old ≡ 6 }
-    ensures { words.new ≡ recordWords r }
+    ensures { words.new ≡ record_words r }
 {
     words[0] = r.rows;
     words[1] = r.allowed;
@@ -50,7 +50,7 @@ fn put_record(words: &mut [u64], r: Record)
 // The record after an event: a refused one leaves it.
 fn put_next(words: &mut [u64], outcome: Outcome, next: Record)
     requires { length words.old ≡ 6 }
-    ensures { words.new ≡ nextWords outcome next words.old }
+    ensures { words.new ≡ next_words outcome next words.old }
 {
     if let Outcome::Taken(_) = outcome {
         put_record(words, next);
@@ -60,7 +60,7 @@ fn put_next(words: &mut [u64], outcome: Outcome, next: Record)
 // The number of reports, and the three words of a place.
 fn put_four(words: &mut [u64], reports: u64, place: Place)
     requires { length words.old ≡ 4 }
-    ensures { words.new ≡ fourWords reports place }
+    ensures { words.new ≡ four_words reports place }
 {
     words[0] = reports;
     words[1] = place.word;
@@ -70,7 +70,7 @@ fn put_four(words: &mut [u64], reports: u64, place: Place)
 
 fn put_answer(words: &mut [u64], outcome: Outcome)
     requires { length words.old ≡ 4 }
-    ensures { words.new ≡ answerWords outcome }
+    ensures { words.new ≡ answer_words outcome }
 {
     match outcome {
         Outcome::Taken(reports) => put_four(words, reports, Place::none()),
@@ -88,10 +88,10 @@ pub extern "C" fn watch_start(
     record: &mut [u64],
     answer: &mut [u64],
 ) -> u64
-    ensures value { result ≡ startNumber table.now rows depth work.old «record».old answer.old }
-    ensures work_after { work.new ≡ startLeavesWork table.now rows depth work.old «record».old answer.old }
-    ensures record_after { «record».new ≡ startLeavesRecord table.now rows depth work.old «record».old answer.old }
-    ensures answer_after { answer.new ≡ startLeavesAnswer table.now rows depth work.old «record».old answer.old }
+    ensures value { result ≡ start_number table.now rows depth work.old «record».old answer.old }
+    ensures work_after { work.new ≡ start_leaves_work table.now rows depth work.old «record».old answer.old }
+    ensures record_after { «record».new ≡ start_leaves_record table.now rows depth work.old «record».old answer.old }
+    ensures answer_after { answer.new ≡ start_leaves_answer table.now rows depth work.old «record».old answer.old }
 {
     if !fits(record, answer) {
         return 100;
@@ -113,11 +113,11 @@ pub extern "C" fn watch_event(
     byte: u8,
     answer: &mut [u64],
 ) -> u64
-    ensures value { result ≡ eventNumber table.now «record».old work.old reports.old byte answer.old }
-    ensures record_after { «record».new ≡ eventLeavesRecord table.now «record».old work.old reports.old byte answer.old }
-    ensures work_after { work.new ≡ eventLeavesWork table.now «record».old work.old reports.old byte answer.old }
-    ensures reports_after { reports.new ≡ eventLeavesReports table.now «record».old work.old reports.old byte answer.old }
-    ensures answer_after { answer.new ≡ eventLeavesAnswer table.now «record».old work.old reports.old byte answer.old }
+    ensures value { result ≡ event_number table.now «record».old work.old reports.old byte answer.old }
+    ensures record_after { «record».new ≡ event_leaves_record table.now «record».old work.old reports.old byte answer.old }
+    ensures work_after { work.new ≡ event_leaves_work table.now «record».old work.old reports.old byte answer.old }
+    ensures reports_after { reports.new ≡ event_leaves_reports table.now «record».old work.old reports.old byte answer.old }
+    ensures answer_after { answer.new ≡ event_leaves_answer table.now «record».old work.old reports.old byte answer.old }
 {
     if !fits(record, answer) {
         return 100;

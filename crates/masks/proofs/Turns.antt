@@ -13,12 +13,12 @@ pub one_shifted : (i : ℕ) → i < 64 → 1 * 2 ^ i % 2 ^ 64 ≡ 2 ^ i
 one_shifted i l = shl_exact 1 i 64 (omega arith) (omega arith) ∙ one-mul (2 ^ i)
 
 -- A turn that adds: y stands for u, r for s.
-pub turn-added : {y u r s w : ℕ} → y ≡ u → r ≡ s → w ≡ added y r → w ≡ added u s
-turn-added e f g = g ∙ ap₂ added e f
+pub turn_added : {y u r s w : ℕ} → y ≡ u → r ≡ s → w ≡ added y r → w ≡ added u s
+turn_added e f g = g ∙ ap₂ added e f
 
 -- A turn that changes the set by F where its test passes.
-pub turn-taken : (F : ℕ → ℕ) {b h : Bool} {y u w : ℕ} → h ≡ b → h ≡ true → y ≡ u → w ≡ F y → w ≡ cond b (F u) u
-turn-taken F e f g k = k ∙ ap F g ∙ rw (← e, f)
+pub turn_taken : (F : ℕ → ℕ) {b h : Bool} {y u w : ℕ} → h ≡ b → h ≡ true → y ≡ u → w ≡ F y → w ≡ cond b (F u) u
+turn_taken F e f g k = k ∙ ap F g ∙ rw (← e, f)
 
-pub turn-left : (F : ℕ → ℕ) {b h : Bool} {y u w : ℕ} → h ≡ b → h ≡ false → y ≡ u → w ≡ y → w ≡ cond b (F u) u
-turn-left F e f g k = k ∙ g ∙ rw (← e, f)
+pub turn_left : (F : ℕ → ℕ) {b h : Bool} {y u w : ℕ} → h ≡ b → h ≡ false → y ≡ u → w ≡ y → w ≡ cond b (F u) u
+turn_left F e f g k = k ∙ g ∙ rw (← e, f)

@@ -19,21 +19,21 @@ abbrev pub Closes : Table → ℕ → List Event → Type 0
 Closes t d w = Reads t.labels d w zero
 
 module _ (t : Table) where
-  pub acc-trans : {q r x : ℕ} → Acc t q r → Acc t r x → Acc t q x
-  acc-trans a Acc.here = a
-  acc-trans a (Acc.pointed b l) = Acc.pointed (acc-trans a b) l
-  acc-trans a (Acc.applied b p) = Acc.applied (acc-trans a b) p
+  pub acc_trans : {q r x : ℕ} → Acc t q r → Acc t r x → Acc t q x
+  acc_trans a Acc.here = a
+  acc_trans a (Acc.pointed b l) = Acc.pointed (acc_trans a b) l
+  acc_trans a (Acc.applied b p) = Acc.applied (acc_trans a b) p
 
   -- What is accessible from a tree's state is a tree's state.
-  pub tree-acc : {q r : ℕ} → Tree t q → Acc t q r → Tree t r
-  tree-acc h Acc.here = h
-  tree-acc h (Acc.pointed b l) = Tree.pointed (tree-acc h b) l
-  tree-acc h (Acc.applied b p) = Tree.applied (tree-acc h b) p
+  pub tree_acc : {q r : ℕ} → Tree t q → Acc t q r → Tree t r
+  tree_acc h Acc.here = h
+  tree_acc h (Acc.pointed b l) = Tree.pointed (tree_acc h b) l
+  tree_acc h (Acc.applied b p) = Tree.applied (tree_acc h b) p
 
   module _ (F : ℕ → Type 0) where
-    level-acc : (s : List ℕ) {q r : ℕ} → LevelSet t F s q → Acc t q r → LevelSet t F s r
-    level-acc [] h a = λ x b. h x (acc-trans a b)
-    level-acc (p ∷ s) h a = λ x b. h x (acc-trans a b)
+    level_acc : (s : List ℕ) {q r : ℕ} → LevelSet t F s q → Acc t q r → LevelSet t F s r
+    level_acc [] h a = λ x b. h x (acc_trans a b)
+    level_acc (p ∷ s) h a = λ x b. h x (acc_trans a b)
 
     -- In the newest set: every completion ends in F.
     sound :
@@ -43,8 +43,8 @@ module _ (t : Table) where
     sound Reads.none z q (p ∷ s) e h = absurd (omega arith)
     sound (Reads.opens {a = a} l c) z q s e h =
         sound c z (t.opening a) (q ∷ s) (ap suc e)
-        (λ r b. level-acc s h (Acc.applied Acc.here (tree-acc (Tree.opened l) b)))
-    sound (Reads.points {a = a} l c) z q s e h = sound c z (t.point q a) s e (level-acc s h (Acc.pointed Acc.here l))
+        (λ r b. level_acc s h (Acc.applied Acc.here (tree_acc (Tree.opened l) b)))
+    sound (Reads.points {a = a} l c) z q s e h = sound c z (t.point q a) s e (level_acc s h (Acc.pointed Acc.here l))
     sound (Reads.closes c) z q [] e h = absurd (omega arith)
     sound (Reads.closes c) z q (p ∷ s) e h = sound c z (t.apply p q) s (omega arith) (h q Acc.here)
 
@@ -53,22 +53,22 @@ module _ (t : Table) where
   Onto q s r s' =
       (w : List Event) → Closes t (length s') w → (v : List Event) × Closes t (length s) v × (ends t q s v ≡ ends t r s' w)
 
-  tree-onto : {p : ℕ} → Tree t p → (q : ℕ) (s : List ℕ) → Onto q s p (q ∷ s)
+  tree_onto : {p : ℕ} → Tree t p → (q : ℕ) (s : List ℕ) → Onto q s p (q ∷ s)
   unfolding Onto
-  tree-onto (Tree.opened {a = a} l) q s w c = (Open a ∷ w, Reads.opens l c, refl)
-  tree-onto (Tree.pointed {a = a} h l) q s w c = tree-onto h q s (Point a ∷ w) (Reads.points l c)
-  tree-onto (Tree.applied {q = x} {p = y} h g) q s w c =
-      let (v, d, e) = tree-onto g x (q ∷ s) (Close ∷ w) (Reads.closes c) in
-      let (u, b, f) = tree-onto h q s v d in
+  tree_onto (Tree.opened {a = a} l) q s w c = (Open a ∷ w, Reads.opens l c, refl)
+  tree_onto (Tree.pointed {a = a} h l) q s w c = tree_onto h q s (Point a ∷ w) (Reads.points l c)
+  tree_onto (Tree.applied {q = x} {p = y} h g) q s w c =
+      let (v, d, e) = tree_onto g x (q ∷ s) (Close ∷ w) (Reads.closes c) in
+      let (u, b, f) = tree_onto h q s v d in
       (u, b, f ∙ e)
 
-  acc-onto : {q r : ℕ} → Acc t q r → (s : List ℕ) → Onto q s r s
+  acc_onto : {q r : ℕ} → Acc t q r → (s : List ℕ) → Onto q s r s
   unfolding Onto
-  acc-onto Acc.here s w c = (w, c, refl)
-  acc-onto (Acc.pointed {a = a} h l) s w c = acc-onto h s (Point a ∷ w) (Reads.points l c)
-  acc-onto (Acc.applied {r = x} {p = y} h g) s w c =
-      let (v, d, e) = tree-onto g x s (Close ∷ w) (Reads.closes c) in
-      let (u, b, f) = acc-onto h s v d in
+  acc_onto Acc.here s w c = (w, c, refl)
+  acc_onto (Acc.pointed {a = a} h l) s w c = acc_onto h s (Point a ∷ w) (Reads.points l c)
+  acc_onto (Acc.applied {r = x} {p = y} h g) s w c =
+      let (v, d, e) = tree_onto g x s (Close ∷ w) (Reads.closes c) in
+      let (u, b, f) = acc_onto h s v d in
       (u, b, f ∙ e)
 
   module _ (F : ℕ → Type 0) where
@@ -76,10 +76,10 @@ module _ (t : Table) where
     complete : (s : List ℕ) (q : ℕ) → ((w : List Event) → Closes t (length s) w → F (ends t q s w)) → LevelSet t F s q
     unfolding Onto
     complete [] q h = λ r a.
-        let (v, d, e) = acc-onto a [] [] Reads.none in
+        let (v, d, e) = acc_onto a [] [] Reads.none in
         subst F e (h v d)
     complete (p ∷ s) q h = λ r a. complete s (t.apply p r) (λ w c.
-        let (v, d, e) = acc-onto a (p ∷ s) (Close ∷ w) (Reads.closes c) in
+        let (v, d, e) = acc_onto a (p ∷ s) (Close ∷ w) (Reads.closes c) in
         subst F e (h v d))
 
     -- The newest state is in the newest set exactly when every completion from here ends in F.

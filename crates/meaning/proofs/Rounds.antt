@@ -6,17 +6,17 @@ use Prim.Native.Nat.{ℕ, zero, suc, ◌+◌, ◌-◌, ◌^◌, ◌<◌, ◌≤�
 use native.Mathlib.Decide.{dec_le}
 use native.Mathlib.Omega.{arith}
 use Rattle.meaning.specs.Masks.{rounds}
-use Rattle.meaning.proofs.Masks.{Within, card, card-le, card-within, card-same, within-le}
+use Rattle.meaning.proofs.Masks.{Within, card, card_le, card_within, card_same, within_le}
 
 -- Rounds on end, from the inside.
-pub rounds-shift : (j : ℕ) (f : ℕ → ℕ) (x : ℕ) → rounds j f (f x) ≡ f (rounds j f x)
-rounds-shift zero f x = refl
-rounds-shift (suc j) f x = ap f (rounds-shift j f x)
+pub rounds_shift : (j : ℕ) (f : ℕ → ℕ) (x : ℕ) → rounds j f (f x) ≡ f (rounds j f x)
+rounds_shift zero f x = refl
+rounds_shift (suc j) f x = ap f (rounds_shift j f x)
 
 -- After a round that adds nothing no other does.
-pub rounds-last : (j : ℕ) (f : ℕ → ℕ) (x : ℕ) → f x ≡ x → rounds j f x ≡ x
-rounds-last zero f x e = refl
-rounds-last (suc j) f x e = ap f (rounds-last j f x e) ∙ e
+pub rounds_last : (j : ℕ) (f : ℕ → ℕ) (x : ℕ) → f x ≡ x → rounds j f x ≡ x
+rounds_last zero f x e = refl
+rounds_last (suc j) f x e = ap f (rounds_last j f x e) ∙ e
 
 -- Rounds 1 to j each add a state, and round j + 1 is the last: it adds nothing.
 pub record LastAfter (n : ℕ) (f : ℕ → ℕ) (x j : ℕ) : Type 0 where
@@ -30,22 +30,22 @@ pub record OnlyAdds (n : ℕ) (f : ℕ → ℕ) : Type 0 where
 
 module _ {n : ℕ} {f : ℕ → ℕ} (adds : OnlyAdds n f) where
   -- Rounds stay among the states, and lose nothing.
-  pub rounds-lt : (j x : ℕ) → x < 2 ^ n → rounds j f x < 2 ^ n
-  rounds-lt zero x l = l
-  rounds-lt (suc j) x l = adds.bounded (rounds j f x) (rounds-lt j x l)
+  pub rounds_lt : (j x : ℕ) → x < 2 ^ n → rounds j f x < 2 ^ n
+  rounds_lt zero x l = l
+  rounds_lt (suc j) x l = adds.bounded (rounds j f x) (rounds_lt j x l)
 
-  pub rounds-keep : (j x : ℕ) → Within x (rounds j f x)
-  rounds-keep zero x i h = h
-  rounds-keep (suc j) x i h = adds.grows (rounds j f x) i (rounds-keep j x i h)
+  pub rounds_keep : (j x : ℕ) → Within x (rounds j f x)
+  rounds_keep zero x i h = h
+  rounds_keep (suc j) x i h = adds.grows (rounds j f x) i (rounds_keep j x i h)
 
   -- A round adds a state or changes nothing.
-  pub adds-or-last : (x : ℕ) → x < 2 ^ n → (f x ≡ x) ⊎ (card n x < card n (f x))
-  adds-or-last x l = go (dec_le (card n (f x)) (card n x))
+  pub adds_or_last : (x : ℕ) → x < 2 ^ n → (f x ≡ x) ⊎ (card n x < card n (f x))
+  adds_or_last x l = go (dec_le (card n (f x)) (card n x))
     where
       go : Dec (card n (f x) ≤ card n x) → (f x ≡ x) ⊎ (card n x < card n (f x))
       go (yes h) =
-          let m = card-within n x (f x) (adds.grows x) in
-          inl (sym (card-same n x (f x) l (adds.bounded x l) (adds.grows x) (omega arith)))
+          let m = card_within n x (f x) (adds.grows x) in
+          inl (sym (card_same n x (f x) l (adds.bounded x l) (adds.grows x) (omega arith)))
       go (no h) = inr (omega arith)
 
   -- Among the first j rounds is the last one, or each of them added a state.
@@ -54,7 +54,7 @@ module _ {n : ℕ} {f : ℕ → ℕ} (adds : OnlyAdds n f) where
       ((i : ℕ) × (i + card n x ≤ n) × LastAfter n f x i)
       ⊎ (((i : ℕ) → i < j → card n (rounds i f x) < card n (rounds (suc i) f x)) × (j + card n x ≤ card n (rounds j f x)))
   search-last x l zero = inr (λ i h. absurd (omega arith), omega arith)
-  search-last x l (suc j) = go (search-last x l j) (adds-or-last (rounds j f x) (rounds-lt j x l))
+  search-last x l (suc j) = go (search-last x l j) (adds_or_last (rounds j f x) (rounds_lt j x l))
     where
       Adding : ℕ → Type 0
       Adding m = (i : ℕ) → i < m → card n (rounds i f x) < card n (rounds (suc i) f x)
@@ -73,7 +73,7 @@ module _ {n : ℕ} {f : ℕ → ℕ} (adds : OnlyAdds n f) where
       go (inl found) d = inl found
       go (inr h) (inl e) =
           let b = h.1 in
-          inl (j, omega (arith, card-le n (rounds j f x)), record { adding = h.0; last = e })
+          inl (j, omega (arith, card_le n (rounds j f x)), record { adding = h.0; last = e })
       go (inr h) (inr g) =
           let b = h.1 in
           inr (one_more h.0 g, omega arith)
@@ -87,7 +87,7 @@ module _ {n : ℕ} {f : ℕ → ℕ} (adds : OnlyAdds n f) where
           ⊎ (((i : ℕ) → i < suc n → card n (rounds i f x) < card n (rounds (suc i) f x)) × (suc n + card n x ≤ card n (rounds (suc n) f x))) →
           (j : ℕ) × (j + card n x ≤ n) × LastAfter n f x j
       go (inl found) = found
-      go (inr h) = let b = h.1 in absurd (omega (arith, card-le n (rounds (suc n) f x)))
+      go (inr h) = let b = h.1 in absurd (omega (arith, card_le n (rounds (suc n) f x)))
 
   -- After a round that adds nothing, more rounds change nothing.
   stays : (d j x : ℕ) → f (rounds j f x) ≡ rounds j f x → rounds (d + j) f x ≡ rounds j f x
@@ -103,13 +103,13 @@ module _ {n : ℕ} {f : ℕ → ℕ} (adds : OnlyAdds n f) where
       ap f e ∙ c.last ∙ sym e
 
   -- To begin with a round is to end in the same set: the law by which a loop that stops early is right.
-  pub round-first : (x : ℕ) → x < 2 ^ n → rounds n f (f x) ≡ rounds n f x
-  round-first x l = rounds-shift n f x ∙ settled x l
+  pub round_first : (x : ℕ) → x < 2 ^ n → rounds n f (f x) ≡ rounds n f x
+  round_first x l = rounds_shift n f x ∙ settled x l
 
   -- A round that changes a mask makes it larger as a number.
-  pub round-rises : (x : ℕ) → (f x ≡ x → ⊥) → x < f x
-  round-rises x h = go (dec_le (suc x) (f x))
+  pub round_rises : (x : ℕ) → (f x ≡ x → ⊥) → x < f x
+  round_rises x h = go (dec_le (suc x) (f x))
     where
       go : Dec (x < f x) → x < f x
       go (yes l) = l
-      go (no l) = absurd (h (omega (arith, within-le x (f x) (adds.grows x))))
+      go (no l) = absurd (h (omega (arith, within_le x (f x) (adds.grows x))))

@@ -8,8 +8,8 @@ use native.Mathlib.Omega.{arith}
 use native.Mathlib.Nat.{sub-zero}
 use native.Mathlib.Decide.{ℕ_discrete}
 use Rattle.meaning.specs.Masks.{all}
-use Rattle.meaning.specs.Search.{searched, First, firstWrong}
-use Rattle.meaning.proofs.Tests.{T_true, true-T, all_give, all-fails}
+use Rattle.meaning.specs.Search.{searched, First, first_wrong}
+use Rattle.meaning.proofs.Tests.{T_true, true_T, all_give, all_fails}
 
 -- What is said is said of the first place at which the test fails.
 pub record Found {A : Type 0} (at : ℕ → A) (right : ℕ → Bool) (i n : ℕ) (said : A) : Type 0 where
@@ -22,13 +22,13 @@ abbrev pub Passed : (ℕ → Bool) → ℕ → ℕ → Type 0
 Passed right i n = (j : ℕ) → i ≤ j → j < i + n → right j ≡ true
 
 module _ {A : Type 0} (at : ℕ → A) (otherwise : A) (right : ℕ → Bool) where
-  pub right-next : (i n : ℕ) → right i ≡ true → searched at otherwise right i (suc n) ≡ searched at otherwise right (i + 1) n
+  pub right_next : (i n : ℕ) → right i ≡ true → searched at otherwise right i (suc n) ≡ searched at otherwise right (i + 1) n
   unfolding searched
-  right-next i n e = rw e
+  right_next i n e = rw e
 
-  pub wrong-here : (i n : ℕ) → right i ≡ false → searched at otherwise right i (suc n) ≡ at i
+  pub wrong_here : (i n : ℕ) → right i ≡ false → searched at otherwise right i (suc n) ≡ at i
   unfolding searched
-  wrong-here i n e = rw e
+  wrong_here i n e = rw e
 
   -- A search says `otherwise`, and every test passed; or it has found the first that did not.
   pub decided :
@@ -69,52 +69,52 @@ module _ {A : Type 0} (at : ℕ → A) (otherwise : A) (right : ℕ → Bool) wh
     abbrev pub Rest : ℕ → Type 0
     Rest i = searched at otherwise right i (n - i) ≡ searched at otherwise right 0 n
 
-    pub rest-start : Rest 0
-    rest-start = rw (sub-zero n)
+    pub rest_start : Rest 0
+    rest_start = rw (sub-zero n)
 
     pub rest_end : (i : ℕ) → Rest i → n ≤ i → otherwise ≡ searched at otherwise right 0 n
     unfolding searched
     rest_end i h e = let z : n - i ≡ 0 = omega arith in rw z at h
 
-    pub rest-right : (i j : ℕ) → Rest i → i < n → right i ≡ true → j ≡ i + 1 → Rest j
-    rest-right i j h l e q =
+    pub rest_right : (i j : ℕ) → Rest i → i < n → right i ≡ true → j ≡ i + 1 → Rest j
+    rest_right i j h l e q =
         let z : n - i ≡ suc (n - (i + 1)) = omega arith in
-        rw q (sym (right-next i _ e) ∙ (rw z at h))
+        rw q (sym (right_next i _ e) ∙ (rw z at h))
 
-    pub rest-wrong : (i : ℕ) → Rest i → i < n → right i ≡ false → at i ≡ searched at otherwise right 0 n
-    rest-wrong i h l e =
+    pub rest_wrong : (i : ℕ) → Rest i → i < n → right i ≡ false → at i ≡ searched at otherwise right 0 n
+    rest_wrong i h l e =
         let z : n - i ≡ suc (n - (i + 1)) = omega arith in
-        sym (wrong-here i _ e) ∙ (rw z at h)
+        sym (wrong_here i _ e) ∙ (rw z at h)
 
 -- There is one first place.
-pub one-first : {right : ℕ → Bool} {i n j k : ℕ} → First right i n j → First right i n k → j ≡ k
-one-first {j = j} {k = k} f g =
+pub one_first : {right : ℕ → Bool} {i n j k : ℕ} → First right i n j → First right i n k → j ≡ k
+one_first {j = j} {k = k} f g =
     let not-before : j < k → ⊥ = λ l. true≢false (sym (g.passed j f.from l) ∙ f.fails) in
     let not_after : k < j → ⊥ = λ l. true≢false (sym (f.passed k g.from l) ∙ g.fails) in
     omega (arith, not-before, not_after)
 
 module _ (n : ℕ) (right : ℕ → Bool) where
   -- Below n it is the first at which the test fails.
-  pub first_below : firstWrong n right < n → First right 0 n (firstWrong n right)
+  pub first_below : first_wrong n right < n → First right 0 n (first_wrong n right)
   first_below l =
       ⊎_elim (λ h. absurd (omega (arith, h.0))) (λ h. rw h.is h.first) (decided (λ i. i) n right n 0)
 
-  pub first-is : {j : ℕ} → First right 0 n j → firstWrong n right ≡ j
-  first-is f =
-      ⊎_elim (λ h. absurd (true≢false (sym (h.1 _ f.from f.to) ∙ f.fails))) (λ h. h.is ∙ one-first h.first f)
+  pub first_is : {j : ℕ} → First right 0 n j → first_wrong n right ≡ j
+  first_is f =
+      ⊎_elim (λ h. absurd (true≢false (sym (h.1 _ f.from f.to) ∙ f.fails))) (λ h. h.is ∙ one_first h.first f)
       (decided (λ i. i) n right n 0)
 
   -- Whether all pass can be told by it.
-  pub some-wrong : firstWrong n right < n → all n right ≡ false
-  some-wrong l = let f = first_below l in all-fails n right (firstWrong n right) l f.fails
+  pub some_wrong : first_wrong n right < n → all n right ≡ false
+  some_wrong l = let f = first_below l in all_fails n right (first_wrong n right) l f.fails
 
-  pub none-wrong : n ≤ firstWrong n right → all n right ≡ true
-  none-wrong l =
-      ⊎_elim (λ h. T_true (all n right) (all_give n right (λ i m. true-T (h.1 i (omega arith) (omega arith)))))
+  pub none_wrong : n ≤ first_wrong n right → all n right ≡ true
+  none_wrong l =
+      ⊎_elim (λ h. T_true (all n right) (all_give n right (λ i m. true_T (h.1 i (omega arith) (omega arith)))))
       (λ h. absurd (omega (arith, h.is, h.first.to)))
       (decided (λ i. i) n right n 0)
 
-  pub wrong-below : all n right ≡ false → firstWrong n right < n
-  wrong-below e =
-      let some : n ≤ firstWrong n right → ⊥ = λ l. true≢false (sym (none-wrong l) ∙ e) in
+  pub wrong_below : all n right ≡ false → first_wrong n right < n
+  wrong_below e =
+      let some : n ≤ first_wrong n right → ⊥ = λ l. true≢false (sym (none_wrong l) ∙ e) in
       omega (arith, some)

@@ -9,8 +9,8 @@ use native.Mathlib.Numerals.{add-one}
 use lib.Dec.{T}
 use Rattle.meaning.specs.Masks.{all}
 
-pub true-T : {b : Bool} → b ≡ true → T b
-true-T e = rw e tt
+pub true_T : {b : Bool} → b ≡ true → T b
+true_T e = rw e tt
 
 pub T_true : (b : Bool) → T b → b ≡ true
 T_true true h = refl
@@ -36,16 +36,16 @@ and_right true b h = h
 and_right false b h = absurd h
 
 pub both_true : (a b : Bool) → a && b ≡ true → (a ≡ true) × (b ≡ true)
-both_true a b e = (T_true a (and_left a b (true-T e)), T_true b (and_right a b (true-T e)))
+both_true a b e = (T_true a (and_left a b (true_T e)), T_true b (and_right a b (true_T e)))
 
 -- "not a or b" is "a gives b".
-pub implies-give : (a b : Bool) → (T a → T b) → T (not a || b)
-implies-give true b h = h tt
-implies-give false b h = tt
+pub implies_give : (a b : Bool) → (T a → T b) → T (not a || b)
+implies_give true b h = h tt
+implies_give false b h = tt
 
-pub implies-take : (a b : Bool) → T (not a || b) → T a → T b
-implies-take true b h g = h
-implies-take false b h g = absurd g
+pub implies_take : (a b : Bool) → T (not a || b) → T a → T b
+implies_take true b h g = h
+implies_take false b h g = absurd g
 
 pub all_give : (n : ℕ) (test : ℕ → Bool) → ((i : ℕ) → i < n → T (test i)) → T (all n test)
 all_give zero test h = tt
@@ -66,17 +66,17 @@ pub all_more : (n : ℕ) (test : ℕ → Bool) → all n test ≡ true → test 
 all_more n test e h = rw (add-one n, e, h)
 
 -- The loop has come to its end with every test passed.
-pub all-passed : (n i : ℕ) (test : ℕ → Bool) → i ≤ n → n ≤ i → all i test ≡ true → true ≡ all n test
-all-passed n i test l m e = let q : i ≡ n = omega arith in sym (rw q at e)
+pub all_passed : (n i : ℕ) (test : ℕ → Bool) → i ≤ n → n ≤ i → all i test ≡ true → true ≡ all n test
+all_passed n i test l m e = let q : i ≡ n = omega arith in sym (rw q at e)
 
 -- One test that fails is enough.
-pub all-fails : (n : ℕ) (test : ℕ → Bool) (i : ℕ) → i < n → test i ≡ false → all n test ≡ false
-all-fails n test i l e = go (all n test) refl
+pub all_fails : (n : ℕ) (test : ℕ → Bool) (i : ℕ) → i < n → test i ≡ false → all n test ≡ false
+all_fails n test i l e = go (all n test) refl
   where
     go : (b : Bool) → all n test ≡ b → all n test ≡ false
-    go true h = absurd (rw e at (all_take n test (true-T h) i l))
+    go true h = absurd (rw e at (all_take n test (true_T h) i l))
     go false h = h
 
 -- Where all pass, each does.
-pub all-holds : (n : ℕ) (test : ℕ → Bool) → all n test ≡ true → (i : ℕ) → i < n → test i ≡ true
-all-holds n test e i l = T_true (test i) (all_take n test (true-T e) i l)
+pub all_holds : (n : ℕ) (test : ℕ → Bool) → all n test ≡ true → (i : ℕ) → i < n → test i ≡ true
+all_holds n test e i l = T_true (test i) (all_take n test (true_T e) i l)

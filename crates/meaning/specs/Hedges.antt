@@ -12,10 +12,10 @@ pub data Hedge : Type 0 where
   point : ℕ → Hedge → Hedge
 
 -- Its stream.
-abbrev pub streamOf : Hedge → List Event
-streamOf Hedge.none = []
-streamOf (Hedge.node a h g) = Open a ∷ (streamOf h ++ (Close ∷ streamOf g))
-streamOf (Hedge.point a g) = Point a ∷ streamOf g
+abbrev pub stream_of : Hedge → List Event
+stream_of Hedge.none = []
+stream_of (Hedge.node a h g) = Open a ∷ (stream_of h ++ (Close ∷ stream_of g))
+stream_of (Hedge.point a g) = Point a ∷ stream_of g
 
 -- How many positions it has.
 abbrev pub size : Hedge → ℕ

@@ -6,5 +6,5 @@ abbrev pub put_at : ℕ → List ℕ → List ℕ → List ℕ
 put_at at xs lent = take at lent ++ xs ++ drop (at + length xs) lent
 
 -- The same from the front.
-abbrev pub onFront : List ℕ → List ℕ → List ℕ
-onFront xs lent = xs ++ drop (length xs) lent
+abbrev pub on_front : List ℕ → List ℕ → List ℕ
+on_front xs lent = xs ++ drop (length xs) lent

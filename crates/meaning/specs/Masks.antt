@@ -45,59 +45,59 @@ abbrev pub points_of : Table → ℕ → ℕ → ℕ
 points_of t q x = upto t.labels (λ a y. added y (t.point q a)) x
 
 -- x with every A(q,p) for p in trees.
-abbrev pub appliesOf : Table → ℕ → ℕ → ℕ → ℕ
-appliesOf t trees q x = upto t.states (λ p y. cond (has trees p) (added y (t.apply q p)) y) x
+abbrev pub applies_of : Table → ℕ → ℕ → ℕ → ℕ
+applies_of t trees q x = upto t.states (λ p y. cond (has trees p) (added y (t.apply q p)) y) x
 
 -- x with what one step takes q to, where q is in x.
-abbrev pub followOf : Table → ℕ → ℕ → ℕ → ℕ
-followOf t trees q x = cond (has x q) (appliesOf t trees q (points_of t q x)) x
+abbrev pub follow_of : Table → ℕ → ℕ → ℕ → ℕ
+follow_of t trees q x = cond (has x q) (applies_of t trees q (points_of t q x)) x
 
 -- A round over all states; one that it adds is followed at once if its turn is still to come.
-abbrev pub roundOf : Table → ℕ → ℕ → ℕ
-roundOf t trees x = upto t.states (followOf t trees) x
+abbrev pub round_of : Table → ℕ → ℕ → ℕ
+round_of t trees x = upto t.states (follow_of t trees) x
 
 -- Every O(a).
-abbrev pub openingsOf : Table → ℕ
-openingsOf t = upto t.labels (λ a y. added y (t.opening a)) 0
+abbrev pub openings_of : Table → ℕ
+openings_of t = upto t.labels (λ a y. added y (t.opening a)) 0
 
 -- T. That n rounds are enough is proved.
-abbrev pub treesOf : Table → ℕ
-treesOf t = rounds t.states (λ x. roundOf t x x) (openingsOf t)
+abbrev pub trees_of : Table → ℕ
+trees_of t = rounds t.states (λ x. round_of t x x) (openings_of t)
 
 -- acc(q), for trees in T's place.
-abbrev pub accOf : Table → ℕ → ℕ → ℕ
-accOf t trees q = rounds t.states (roundOf t trees) (2 ^ q)
+abbrev pub acc_of : Table → ℕ → ℕ → ℕ
+acc_of t trees q = rounds t.states (round_of t trees) (2 ^ q)
 
 -- acc(q) for each of 64 states, 0 from state n on.
-abbrev pub accsOver : Table → ℕ → List ℕ
-accsOver t trees = tabulate t.states (accOf t trees) ++ replicate (64 - t.states) 0
+abbrev pub accs_over : Table → ℕ → List ℕ
+accs_over t trees = tabulate t.states (acc_of t trees) ++ replicate (64 - t.states) 0
 
 -- The same for T itself: what the rules of 01 use.
-abbrev pub accsOf : Table → List ℕ
-accsOf t = accsOver t (treesOf t)
+abbrev pub accs_of : Table → List ℕ
+accs_of t = accs_over t (trees_of t)
 
 -- safe(x): the q below n whose acc(q) lies in x.
-abbrev pub safeOf : ℕ → List ℕ → ℕ → ℕ
-safeOf n accs x = collect n (λ q. within (get_or accs q 0) x)
+abbrev pub safe_of : ℕ → List ℕ → ℕ → ℕ
+safe_of n accs x = collect n (λ q. within (get_or accs q 0) x)
 
 -- The set of p with A(q,p) in x.
-abbrev pub intoOf : Table → ℕ → ℕ → ℕ
-intoOf t q x = collect t.states (λ p. has x (t.apply q p))
+abbrev pub into_of : Table → ℕ → ℕ → ℕ
+into_of t q x = collect t.states (λ p. has x (t.apply q p))
 
 -- down(q,x).
-abbrev pub downOf : Table → List ℕ → ℕ → ℕ → ℕ
-downOf t accs q x = safeOf t.states accs (intoOf t q x)
+abbrev pub down_of : Table → List ℕ → ℕ → ℕ → ℕ
+down_of t accs q x = safe_of t.states accs (into_of t q x)
 
 -- A state with acc(.) = acc is in down(q,x), told without that set: A(q,p) is in x for every p of acc, and p is a state.
-abbrev pub inDown : Table → ℕ → ℕ → ℕ → Bool
-inDown t acc q x = all 64 (λ p. not (has acc p) || (ltb p t.states && has x (t.apply q p)))
+abbrev pub in_down : Table → ℕ → ℕ → ℕ → Bool
+in_down t acc q x = all 64 (λ p. not (has acc p) || (ltb p t.states && has x (t.apply q p)))
 
 -- The states that are final, or those that are not.
-abbrev pub endsOf : Table → Bool → ℕ
-endsOf t wanted = collect t.states (λ q. cond wanted (t.final q) (not (t.final q)))
+abbrev pub ends_of : Table → Bool → ℕ
+ends_of t wanted = collect t.states (λ q. cond wanted (t.final q) (not (t.final q)))
 
-abbrev pub finalsOf : Table → ℕ
-finalsOf t = endsOf t Bool.true
+abbrev pub finals_of : Table → ℕ
+finals_of t = ends_of t Bool.true
 
-abbrev pub othersOf : Table → ℕ
-othersOf t = endsOf t Bool.false
+abbrev pub others_of : Table → ℕ
+others_of t = ends_of t Bool.false

@@ -12,21 +12,21 @@ first_of [] otherwise = otherwise
 first_of (l ∷ ls) otherwise = cond l.applies l.gives (first_of ls otherwise)
 
 -- Line i, counted from 0, applies. Past the last line nothing does.
-abbrev pub appliesAt : {A : Type 0} → List (Line A) → ℕ → Bool
-appliesAt [] i = false
-appliesAt (l ∷ ls) zero = l.applies
-appliesAt (l ∷ ls) (suc i) = appliesAt ls i
+abbrev pub applies_at : {A : Type 0} → List (Line A) → ℕ → Bool
+applies_at [] i = false
+applies_at (l ∷ ls) zero = l.applies
+applies_at (l ∷ ls) (suc i) = applies_at ls i
 
 -- What line i gives, and `otherwise` past the last line.
-abbrev pub givesAt : {A : Type 0} → List (Line A) → A → ℕ → A
-givesAt [] otherwise i = otherwise
-givesAt (l ∷ ls) otherwise zero = l.gives
-givesAt (l ∷ ls) otherwise (suc i) = givesAt ls otherwise i
+abbrev pub gives_at : {A : Type 0} → List (Line A) → A → ℕ → A
+gives_at [] otherwise i = otherwise
+gives_at (l ∷ ls) otherwise zero = l.gives
+gives_at (l ∷ ls) otherwise (suc i) = gives_at ls otherwise i
 
 -- Line i applies and none before it does.
 pub record FirstAt {A : Type 0} (ls : List (Line A)) (i : ℕ) : Type 0 where
-  pub applies : appliesAt ls i ≡ true
-  pub none_before : (j : ℕ) → j < i → appliesAt ls j ≡ false
+  pub applies : applies_at ls i ≡ true
+  pub none_before : (j : ℕ) → j < i → applies_at ls j ≡ false
 
 -- The numbers of what the lines give, and last that of `otherwise`.
 abbrev pub numbers : {A : Type 0} → (A → ℕ) → List (Line A) → A → List ℕ

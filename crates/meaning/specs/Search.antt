@@ -14,5 +14,5 @@ pub record First (right : ℕ → Bool) (i n j : ℕ) : Type 0 where
   pub passed : (k : ℕ) → i ≤ k → k < j → right k ≡ true
 
 -- The first number below n at which a test fails; n where it fails at none.
-abbrev pub firstWrong : ℕ → (ℕ → Bool) → ℕ
-firstWrong n right = searched (λ i. i) n right 0 n
+abbrev pub first_wrong : ℕ → (ℕ → Bool) → ℕ
+first_wrong n right = searched (λ i. i) n right 0 n

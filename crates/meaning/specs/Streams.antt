@@ -17,18 +17,18 @@ positions (Point a ∷ w) = suc (positions w)
 positions (Close ∷ w) = positions w
 
 -- The labels of the open levels, newest first: what an event makes of them. A close with nothing open changes nothing.
-abbrev pub allButNewest : List ℕ → List ℕ
-allButNewest [] = []
-allButNewest (a ∷ o) = o
+abbrev pub all_but_newest : List ℕ → List ℕ
+all_but_newest [] = []
+all_but_newest (a ∷ o) = o
 
-abbrev pub openedBy : List ℕ → Event → List ℕ
-openedBy o (Open a) = a ∷ o
-openedBy o (Point a) = o
-openedBy o Close = allButNewest o
+abbrev pub opened_by : List ℕ → Event → List ℕ
+opened_by o (Open a) = a ∷ o
+opened_by o (Point a) = o
+opened_by o Close = all_but_newest o
 
-abbrev pub openAfter : List ℕ → List Event → List ℕ
-openAfter o [] = o
-openAfter o (e ∷ w) = openAfter (openedBy o e) w
+abbrev pub open_after : List ℕ → List Event → List ℕ
+open_after o [] = o
+open_after o (e ∷ w) = open_after (opened_by o e) w
 
 -- A run so far: how many positions are still to come up to and with the marked one (0: no mark is to come), the newest
 -- state, and the states put aside, newest first.

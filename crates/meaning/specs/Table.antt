@@ -16,28 +16,28 @@ pub record Table : Type 0 where
 
 -- n and k within 01's sizes, and every step stays below n.
 pub record WellFormed (t : Table) : Type 0 where
-  pub some-state : 1 ≤ t.states
-  pub few-states : t.states ≤ 64
-  pub some-label : 1 ≤ t.labels
-  pub few-labels : t.labels ≤ 32
-  pub start-in : t.start < t.states
-  pub opening-in : (a : ℕ) → a < t.labels → t.opening a < t.states
-  pub point-in : (q a : ℕ) → q < t.states → a < t.labels → t.point q a < t.states
-  pub mark-in : (q : ℕ) → q < t.states → t.mark q < t.states
-  pub apply-in : (q p : ℕ) → q < t.states → p < t.states → t.apply q p < t.states
+  pub some_state : 1 ≤ t.states
+  pub few_states : t.states ≤ 64
+  pub some_label : 1 ≤ t.labels
+  pub few_labels : t.labels ≤ 32
+  pub start_is_in : t.start < t.states
+  pub opening_in : (a : ℕ) → a < t.labels → t.opening a < t.states
+  pub point_in : (q a : ℕ) → q < t.states → a < t.labels → t.point q a < t.states
+  pub mark_in : (q : ℕ) → q < t.states → t.mark q < t.states
+  pub apply_in : (q p : ℕ) → q < t.states → p < t.states → t.apply q p < t.states
 
 -- The length of body i, which is of kind i + 1: opening, point, mark, apply, final.
-abbrev pub bodyLength : ℕ → ℕ → ℕ → ℕ
-bodyLength n k i = get_or (k ∷ n * k ∷ n ∷ n * n ∷ n ∷ []) i 0
+abbrev pub body_length : ℕ → ℕ → ℕ → ℕ
+body_length n k i = get_or (k ∷ n * k ∷ n ∷ n * n ∷ n ∷ []) i 0
 
 -- Where body i begins: the bodies follow one another from byte 29. With i = 5 it is the whole file's length.
-abbrev pub bodyAt : ℕ → ℕ → ℕ → ℕ
-bodyAt n k zero = 29
-bodyAt n k (suc i) = bodyAt n k i + bodyLength n k i
+abbrev pub body_at : ℕ → ℕ → ℕ → ℕ
+body_at n k zero = 29
+body_at n k (suc i) = body_at n k i + body_length n k i
 
 -- Byte j of body i of a file, both counted from 0.
 abbrev pub in_body : List ℕ → ℕ → ℕ → ℕ
-in_body f i j = get_or f (bodyAt (get_or f 0 0) (get_or f 1 0) i + j) 0
+in_body f i j = get_or f (body_at (get_or f 0 0) (get_or f 1 0) i + j) 0
 
 -- The table that a file's bytes are. P is laid out with all labels of state 0 first, A with all p of q = 0 first.
 abbrev pub table_of : List ℕ → Table

@@ -5,11 +5,11 @@
 // name, and the words past them as they were.
 ghost use Rattle.std.specs.Prelude.{◌≡◌, not, ◌++◌, map, ◌+◌, ◌*◌, ◌<◌, ◌≤◌, length, take, drop};
 ghost use Rattle.meaning.specs.Table.{table_of};
-ghost use Rattle.meaning.specs.Rows.{markRow};
+ghost use Rattle.meaning.specs.Rows.{mark_row};
 ghost use Rattle.bodies.specs.Sound.{Sound};
-ghost use Rattle.places.specs.Places.{rowLength, row_of, padded};
-ghost use Rattle.places.specs.Memory.{rowIn, heldsIn, rowWords, allWords, RowIn, RowsIn};
-ghost use Rattle.rows.specs.Steps.{eventOf, Can, stepRow, onRow, isDecided};
+ghost use Rattle.places.specs.Places.{row_length, row_of, padded};
+ghost use Rattle.places.specs.Memory.{row_in, helds_in, row_words, all_words, RowIn, RowsIn};
+ghost use Rattle.rows.specs.Steps.{event_of, Can, step_row, on_row, is_decided};
 ghost use Rattle.reports.specs.Reports.{left_of};
 
 use rows::Step;
@@ -26,8 +26,8 @@ pub fn step_rows(
 )
     requires sound { Sound table.now }
     requires rows_in { RowsIn (table_of table.now).states w d n words.old }
-    requires n_bound { (n ≤ 65) × Can (table_of table.now) w d (eventOf step) }
-    ensures { words.new ≡ allWords w (map (onRow (stepRow (table_of table.now) accs.now (eventOf step))) (heldsIn w d n words.old)) ++ drop (n * w) words.old }
+    requires n_bound { (n ≤ 65) × Can (table_of table.now) w d (event_of step) }
+    ensures { words.new ≡ all_words w (map (on_row (step_row (table_of table.now) accs.now (event_of step))) (helds_in w d n words.old)) ++ drop (n * w) words.old }
 {
     let mut r = 0;
     while r < n {
@@ -41,8 +41,8 @@ pub fn step_rows(
 fn stays_after(row: &[u64], table: &[u8], accs: &[u64; 64], step: Step, d: usize) -> bool
     requires sound { Sound table.now }
     requires row_in { RowIn (table_of table.now).states d row.now }
-    requires can { Can (table_of table.now) (length row.now) d (eventOf step) }
-    ensures { result ≡ not (isDecided (stepRow (table_of table.now) accs.now (eventOf step) (rowIn d row.now))) }
+    requires can { Can (table_of table.now) (length row.now) d (event_of step) }
+    ensures { result ≡ not (is_decided (step_row (table_of table.now) accs.now (event_of step) (row_in d row.now))) }
 {
     let s = rows::next_state(row, table, step, d);
     rows::stays(row, table, accs, step, d, s)
@@ -52,8 +52,8 @@ fn stays_after(row: &[u64], table: &[u8], accs: &[u64; 64], step: Step, d: usize
 pub fn new_stays(row: &[u64], table: &[u8], accs: &[u64; 64], step: Step, d: usize) -> bool
     requires sound { Sound table.now }
     requires row_in { RowIn (table_of table.now).states d row.now }
-    requires can { Can (table_of table.now) (length row.now) d (eventOf step) }
-    ensures { result ≡ not (isDecided (markRow (table_of table.now) (stepRow (table_of table.now) accs.now (eventOf step) (rowIn d row.now)))) }
+    requires can { Can (table_of table.now) (length row.now) d (event_of step) }
+    ensures { result ≡ not (is_decided (mark_row (table_of table.now) (step_row (table_of table.now) accs.now (event_of step) (row_in d row.now)))) }
 {
     let s = bodies::mark(table, rows::next_state(row, table, step, d));
     rows::stays(row, table, accs, step, d, s)
@@ -71,8 +71,8 @@ pub fn count_alive(
 ) -> usize
     requires sound { Sound table.now }
     requires rows_in { RowsIn (table_of table.now).states w d n words.now }
-    requires n_bound { (n ≤ 65) × Can (table_of table.now) w d (eventOf step) }
-    ensures { result ≡ length (left_of (map (onRow (stepRow (table_of table.now) accs.now (eventOf step))) (heldsIn w d n words.now))) }
+    requires n_bound { (n ≤ 65) × Can (table_of table.now) w d (event_of step) }
+    ensures { result ≡ length (left_of (map (on_row (step_row (table_of table.now) accs.now (event_of step))) (helds_in w d n words.now))) }
 {
     let mut count = 0;
     let mut r = 0;
@@ -89,7 +89,7 @@ pub fn count_alive(
 // Is the row in doubt?
 fn is_left(row: &[u64], d: usize) -> bool
     requires { RowIn 64 d row.now }
-    ensures { result ≡ not (isDecided (rowIn d row.now)) }
+    ensures { result ≡ not (is_decided (row_in d row.now)) }
 {
     rows::is_neither(row, d, row[places::state_at(d)])
 }
@@ -99,8 +99,8 @@ fn is_left(row: &[u64], d: usize) -> bool
 pub fn close_up(words: &mut [u64], w: usize, d: usize, n: usize) -> usize
     requires rows_in { RowsIn 64 w d n words.old }
     requires n_bound { n ≤ 64 }
-    ensures value { result ≡ length (left_of (heldsIn w d n words.old)) }
-    ensures words_after { words.new ≡ padded (n * w) (allWords w (left_of (heldsIn w d n words.old))) ++ drop (n * w) words.old }
+    ensures value { result ≡ length (left_of (helds_in w d n words.old)) }
+    ensures words_after { words.new ≡ padded (n * w) (all_words w (left_of (helds_in w d n words.old))) ++ drop (n * w) words.old }
 {
     let mut r = 0;
     let mut left = 0;
@@ -122,8 +122,8 @@ pub fn close_up(words: &mut [u64], w: usize, d: usize, n: usize) -> usize
 pub fn add_row(words: &mut [u64], table: &[u8], w: usize, d: usize, r: usize, position: u64)
     requires sound { Sound table.now }
     requires row_in { RowIn (table_of table.now).states d (row_of w 0 words.old) }
-    requires r_nonzero { (0 < r) × (r ≤ 64) × (w ≤ rowLength 40) × ((r + 1) * w ≤ length words.old) }
-    ensures { words.new ≡ take (r * w) words.old ++ rowWords w (record { position = position; row = markRow (table_of table.now) (rowIn d (row_of w 0 words.old)) }) ++ drop ((r + 1) * w) words.old }
+    requires r_nonzero { (0 < r) × (r ≤ 64) × (w ≤ row_length 40) × ((r + 1) * w ≤ length words.old) }
+    ensures { words.new ≡ take (r * w) words.old ++ row_words w (record { position = position; row = mark_row (table_of table.now) (row_in d (row_of w 0 words.old)) }) ++ drop ((r + 1) * w) words.old }
 {
     let at = r * w;
     words::copy_words(words, at, 0, w);

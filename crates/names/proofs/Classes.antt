@@ -4,76 +4,76 @@ use mathlib.Core.Bool.{Bool, true, false, cond, ◌||◌, true≢false}
 use Prim.Native.Nat.{ℕ}
 use borrow.Author.Tests.{eqb-true}
 use lib.Dec.{eqb}
-use Rattle.grammar.specs.Bytes.{isLetter, isNameByte, isBlank, less, slash, greater, classOf}
+use Rattle.grammar.specs.Bytes.{is_letter, is_name_byte, is_blank, less, slash, greater, class_of}
 
 -- A blank is no byte of a name.
-pub blank-no-name : (b : ℕ) → isBlank b ≡ true → isNameByte b ≡ false
-blank-no-name b e = go (eqb b 32) (eqb b 10) (eqb b 13) refl refl refl e
+pub blank_no_name : (b : ℕ) → is_blank b ≡ true → is_name_byte b ≡ false
+blank_no_name b e = go (eqb b 32) (eqb b 10) (eqb b 13) refl refl refl e
   where
-    go : (x y z : Bool) → eqb b 32 ≡ x → eqb b 10 ≡ y → eqb b 13 ≡ z → x || (y || z) ≡ true → isNameByte b ≡ false
+    go : (x y z : Bool) → eqb b 32 ≡ x → eqb b 10 ≡ y → eqb b 13 ≡ z → x || (y || z) ≡ true → is_name_byte b ≡ false
     go true y z p q r e = rw (eqb-true b 32 p)
     go false true z p q r e = rw (eqb-true b 10 q)
     go false false true p q r e = rw (eqb-true b 13 r)
     go false false false p q r e = absurd (true≢false (sym e))
 
-letter-is-name : (b : ℕ) → isLetter b ≡ true → isNameByte b ≡ true
-letter-is-name b e = rw e
+letter_is_name : (b : ℕ) → is_letter b ≡ true → is_name_byte b ≡ true
+letter_is_name b e = rw e
 
 -- The class over bare tests, in their order.
 abbrev by_tests : Bool → Bool → Bool → Bool → Bool → Bool → ℕ
 by_tests blank letter name lt sl gt = cond blank 1 (cond letter 2 (cond name 3 (cond lt 4 (cond sl 5 (cond gt 6 0)))))
 
-others-no-name : (lt sl gt : Bool) → let k = by_tests false false false lt sl gt in eqb k 2 || eqb k 3 ≡ false
-others-no-name true sl gt = refl
-others-no-name false true gt = refl
-others-no-name false false true = refl
-others-no-name false false false = refl
+others_no_name : (lt sl gt : Bool) → let k = by_tests false false false lt sl gt in eqb k 2 || eqb k 3 ≡ false
+others_no_name true sl gt = refl
+others_no_name false true gt = refl
+others_no_name false false true = refl
+others_no_name false false false = refl
 
 -- A byte of class 2 or 3 is one of a name.
-pub class-name : (b : ℕ) → eqb (classOf b) 2 || eqb (classOf b) 3 ≡ isNameByte b
-class-name b = go (isBlank b) (isLetter b) (isNameByte b) (blank-no-name b) (letter-is-name b)
+pub class_name : (b : ℕ) → eqb (class_of b) 2 || eqb (class_of b) 3 ≡ is_name_byte b
+class_name b = go (is_blank b) (is_letter b) (is_name_byte b) (blank_no_name b) (letter_is_name b)
   where
     go : (blank letter name : Bool) → (blank ≡ true → name ≡ false) → (letter ≡ true → name ≡ true)
         → let k = by_tests blank letter name (eqb b less) (eqb b slash) (eqb b greater) in eqb k 2 || eqb k 3 ≡ name
     go true letter name h g = sym (h refl)
     go false true name h g = sym (g refl)
     go false false true h g = refl
-    go false false false h g = others-no-name (eqb b less) (eqb b slash) (eqb b greater)
+    go false false false h g = others_no_name (eqb b less) (eqb b slash) (eqb b greater)
 
-others-no-letter : (name lt sl gt : Bool) → eqb (by_tests false false name lt sl gt) 2 ≡ false
-others-no-letter true lt sl gt = refl
-others-no-letter false true sl gt = refl
-others-no-letter false false true gt = refl
-others-no-letter false false false true = refl
-others-no-letter false false false false = refl
+others_no_letter : (name lt sl gt : Bool) → eqb (by_tests false false name lt sl gt) 2 ≡ false
+others_no_letter true lt sl gt = refl
+others_no_letter false true sl gt = refl
+others_no_letter false false true gt = refl
+others_no_letter false false false true = refl
+others_no_letter false false false false = refl
 
 -- A byte of class 2 is a letter.
-pub class-letter : (b : ℕ) → eqb (classOf b) 2 ≡ isLetter b
-class-letter b = go (isBlank b) (isLetter b) (isNameByte b) (blank-no-name b) (letter-is-name b)
+pub class_letter : (b : ℕ) → eqb (class_of b) 2 ≡ is_letter b
+class_letter b = go (is_blank b) (is_letter b) (is_name_byte b) (blank_no_name b) (letter_is_name b)
   where
     go : (blank letter name : Bool) → (blank ≡ true → name ≡ false) → (letter ≡ true → name ≡ true)
         → eqb (by_tests blank letter name (eqb b less) (eqb b slash) (eqb b greater)) 2 ≡ letter
     go true true name h g = absurd (true≢false (sym (g refl) ∙ h refl))
     go true false name h g = refl
     go false true name h g = refl
-    go false false name h g = others-no-letter name (eqb b less) (eqb b slash) (eqb b greater)
+    go false false name h g = others_no_letter name (eqb b less) (eqb b slash) (eqb b greater)
 
 -- The classes of blanks and of the three marks.
 
-others-no-blank : (letter name lt sl gt : Bool) → eqb (by_tests false letter name lt sl gt) 1 ≡ false
-others-no-blank true name lt sl gt = refl
-others-no-blank false true lt sl gt = refl
-others-no-blank false false true sl gt = refl
-others-no-blank false false false true gt = refl
-others-no-blank false false false false true = refl
-others-no-blank false false false false false = refl
+others_no_blank : (letter name lt sl gt : Bool) → eqb (by_tests false letter name lt sl gt) 1 ≡ false
+others_no_blank true name lt sl gt = refl
+others_no_blank false true lt sl gt = refl
+others_no_blank false false true sl gt = refl
+others_no_blank false false false true gt = refl
+others_no_blank false false false false true = refl
+others_no_blank false false false false false = refl
 
-pub class-blank : (b : ℕ) → eqb (classOf b) 1 ≡ isBlank b
-class-blank b = go (isBlank b)
+pub class_blank : (b : ℕ) → eqb (class_of b) 1 ≡ is_blank b
+class_blank b = go (is_blank b)
   where
-    go : (blank : Bool) → eqb (by_tests blank (isLetter b) (isNameByte b) (eqb b less) (eqb b slash) (eqb b greater)) 1 ≡ blank
+    go : (blank : Bool) → eqb (by_tests blank (is_letter b) (is_name_byte b) (eqb b less) (eqb b slash) (eqb b greater)) 1 ≡ blank
     go true = refl
-    go false = others-no-blank (isLetter b) (isNameByte b) (eqb b less) (eqb b slash) (eqb b greater)
+    go false = others_no_blank (is_letter b) (is_name_byte b) (eqb b less) (eqb b slash) (eqb b greater)
 
 -- No class is a mark's where the mark's test fails.
 no_less : (blank letter name sl gt : Bool) → eqb (by_tests blank letter name false sl gt) 4 ≡ false
@@ -92,27 +92,27 @@ no_slash false false false true gt = refl
 no_slash false false false false true = refl
 no_slash false false false false false = refl
 
-no-greater : (blank letter name lt sl : Bool) → eqb (by_tests blank letter name lt sl false) 6 ≡ false
-no-greater true letter name lt sl = refl
-no-greater false true name lt sl = refl
-no-greater false false true lt sl = refl
-no-greater false false false true sl = refl
-no-greater false false false false true = refl
-no-greater false false false false false = refl
+no_greater : (blank letter name lt sl : Bool) → eqb (by_tests blank letter name lt sl false) 6 ≡ false
+no_greater true letter name lt sl = refl
+no_greater false true name lt sl = refl
+no_greater false false true lt sl = refl
+no_greater false false false true sl = refl
+no_greater false false false false true = refl
+no_greater false false false false false = refl
 
 -- A byte has class k exactly where it is the byte m, if m has it and no other byte.
-mark : (b m k : ℕ) → eqb (classOf m) k ≡ true → (eqb b m ≡ false → eqb (classOf b) k ≡ false) → eqb (classOf b) k ≡ eqb b m
+mark : (b m k : ℕ) → eqb (class_of m) k ≡ true → (eqb b m ≡ false → eqb (class_of b) k ≡ false) → eqb (class_of b) k ≡ eqb b m
 mark b m k has others = go (eqb b m) refl
   where
-    go : (t : Bool) → eqb b m ≡ t → eqb (classOf b) k ≡ t
+    go : (t : Bool) → eqb b m ≡ t → eqb (class_of b) k ≡ t
     go true e = rw (eqb-true b m e) has
     go false e = others e
 
-pub class-less : (b : ℕ) → eqb (classOf b) 4 ≡ eqb b less
-class-less b = mark b less 4 refl (λ e. rw e (no_less (isBlank b) (isLetter b) (isNameByte b) (eqb b slash) (eqb b greater)))
+pub class_less : (b : ℕ) → eqb (class_of b) 4 ≡ eqb b less
+class_less b = mark b less 4 refl (λ e. rw e (no_less (is_blank b) (is_letter b) (is_name_byte b) (eqb b slash) (eqb b greater)))
 
-pub class-slash : (b : ℕ) → eqb (classOf b) 5 ≡ eqb b slash
-class-slash b = mark b slash 5 refl (λ e. rw e (no_slash (isBlank b) (isLetter b) (isNameByte b) (eqb b less) (eqb b greater)))
+pub class_slash : (b : ℕ) → eqb (class_of b) 5 ≡ eqb b slash
+class_slash b = mark b slash 5 refl (λ e. rw e (no_slash (is_blank b) (is_letter b) (is_name_byte b) (eqb b less) (eqb b greater)))
 
-pub class-greater : (b : ℕ) → eqb (classOf b) 6 ≡ eqb b greater
-class-greater b = mark b greater 6 refl (λ e. rw e (no-greater (isBlank b) (isLetter b) (isNameByte b) (eqb b less) (eqb b slash)))
+pub class_greater : (b : ℕ) → eqb (class_of b) 6 ≡ eqb b greater
+class_greater b = mark b greater 6 refl (λ e. rw e (no_greater (is_blank b) (is_letter b) (is_name_byte b) (eqb b less) (eqb b slash)))

@@ -9,44 +9,44 @@ use lib.Dec.{eqb, ltb, eqb-suc-zero}
 use lib.ListN.{length}
 use Rattle.grammar.specs.Names.{lines_from, lines_of, name_at}
 use Rattle.names.specs.declared.Word.{Word}
-use Rattle.names.specs.Words.{no_word, withByte, wordFrom, word_at}
-use Rattle.names.proofs.Spelling.{Spells, spells-none, spells-more}
+use Rattle.names.specs.Words.{no_word, with_byte, word_from, word_at}
+use Rattle.names.proofs.Spelling.{Spells, spells_none, spells_more}
 
 one_less : (a : ℕ) → suc a - 1 ≡ a
 one_less a = omega arith
 
 -- Where the line on which w spells x is the first.
-word-from : (s : List ℕ) {w : Word} {x : List ℕ} → Spells w x → (a : ℕ) → a < length (lines_from x s) → Spells (wordFrom w s a) (name_at (lines_from x s) a)
-word-from [] h a l = absurd (omega arith)
-word-from (b ∷ s) {w} {x} h a l = go (eqb b 10) refl a l (word-from s spells-none) (word-from s (spells-more h b))
+word_from_lem : (s : List ℕ) {w : Word} {x : List ℕ} → Spells w x → (a : ℕ) → a < length (lines_from x s) → Spells (word_from w s a) (name_at (lines_from x s) a)
+word_from_lem [] h a l = absurd (omega arith)
+word_from_lem (b ∷ s) {w} {x} h a l = go (eqb b 10) refl a l (word_from_lem s spells_none) (word_from_lem s (spells_more h b))
   where
     go : (t : Bool) → eqb b 10 ≡ t → (a : ℕ) → a < length (lines_from x (b ∷ s))
-        → ((a : ℕ) → a < length (lines_from [] s) → Spells (wordFrom no_word s a) (name_at (lines_from [] s) a))
-        → ((a : ℕ) → a < length (lines_from (x ++ (b ∷ [])) s) → Spells (wordFrom (withByte w b) s a) (name_at (lines_from (x ++ (b ∷ [])) s) a))
-        → Spells (wordFrom w (b ∷ s) a) (name_at (lines_from x (b ∷ s)) a)
+        → ((a : ℕ) → a < length (lines_from [] s) → Spells (word_from no_word s a) (name_at (lines_from [] s) a))
+        → ((a : ℕ) → a < length (lines_from (x ++ (b ∷ [])) s) → Spells (word_from (with_byte w b) s a) (name_at (lines_from (x ++ (b ∷ [])) s) a))
+        → Spells (word_from w (b ∷ s) a) (name_at (lines_from x (b ∷ s)) a)
     go true e zero l next more = rw e h
     go true e (suc a) l next more = rw (e, eqb-suc-zero a, one_less a) (next a (omega (arith, rw e at l)))
     go false e a l next more = rw e (more a (rw e at l))
 
-pub word-spells : (names : List ℕ) (a : ℕ) → a < length (lines_of names) → a < 32 → Spells (word_at names a) (name_at (lines_of names) a)
-word-spells names a l room = rw (lt-ltb a 32 room) (word-from names spells-none a l)
+pub word_spells : (names : List ℕ) (a : ℕ) → a < length (lines_of names) → a < 32 → Spells (word_at names a) (name_at (lines_of names) a)
+word_spells names a l room = rw (lt-ltb a 32 room) (word_from_lem names spells_none a l)
 
 -- After the last line there is no word.
-none_from : (s : List ℕ) (w : Word) (x : List ℕ) (a : ℕ) → length (lines_from x s) ≤ a → wordFrom w s a ≡ no_word
+none_from : (s : List ℕ) (w : Word) (x : List ℕ) (a : ℕ) → length (lines_from x s) ≤ a → word_from w s a ≡ no_word
 none_from [] w x a l = refl
-none_from (b ∷ s) w x a l = go (eqb b 10) refl a l (none_from s no_word []) (none_from s (withByte w b) (x ++ (b ∷ [])))
+none_from (b ∷ s) w x a l = go (eqb b 10) refl a l (none_from s no_word []) (none_from s (with_byte w b) (x ++ (b ∷ [])))
   where
     go : (t : Bool) → eqb b 10 ≡ t → (a : ℕ) → length (lines_from x (b ∷ s)) ≤ a
-        → ((a : ℕ) → length (lines_from [] s) ≤ a → wordFrom no_word s a ≡ no_word)
-        → ((a : ℕ) → length (lines_from (x ++ (b ∷ [])) s) ≤ a → wordFrom (withByte w b) s a ≡ no_word)
-        → wordFrom w (b ∷ s) a ≡ no_word
+        → ((a : ℕ) → length (lines_from [] s) ≤ a → word_from no_word s a ≡ no_word)
+        → ((a : ℕ) → length (lines_from (x ++ (b ∷ [])) s) ≤ a → word_from (with_byte w b) s a ≡ no_word)
+        → word_from w (b ∷ s) a ≡ no_word
     go true e zero l next more = absurd (omega (arith, rw e at l))
     go true e (suc a) l next more = rw (e, eqb-suc-zero a, one_less a) (next a (omega (arith, rw e at l)))
     go false e a l next more = rw e (more a (rw e at l))
 
-pub no-word : (names : List ℕ) (a : ℕ) → length (lines_of names) ≤ a → word_at names a ≡ no_word
-no-word names a l = go (ltb a 32)
+pub no_word_lem : (names : List ℕ) (a : ℕ) → length (lines_of names) ≤ a → word_at names a ≡ no_word
+no_word_lem names a l = go (ltb a 32)
   where
-    go : (t : Bool) → cond t (wordFrom no_word names a) no_word ≡ no_word
+    go : (t : Bool) → cond t (word_from no_word names a) no_word ≡ no_word
     go true = none_from names no_word [] a l
     go false = refl

@@ -1,6 +1,6 @@
 -- A name as the reader and the writer hold it, and the list of names in its terms. Definitions only.
 use Rattle.std.specs.Prelude.{Bool, true, false, not, cond, ◌&&◌, List, [], ◌∷◌, ℕ, ◌+◌, ◌-◌, eqb, ltb, length, get_or, set, replicate, take}
-use Rattle.grammar.specs.Bytes.{isLetter, isNameByte}
+use Rattle.grammar.specs.Bytes.{is_letter, is_name_byte}
 use Rattle.grammar.specs.Names.{lines_of, place_of}
 use Rattle.names.specs.declared.Word.{Word}
 use Rattle.names.specs.declared.Label.{Label}
@@ -10,12 +10,12 @@ abbrev pub no_word : Word
 no_word = record { bytes = replicate 16 0; length = 0 }
 
 -- One byte more; a word of more than 16 bytes keeps none of those after.
-abbrev pub withByte : Word → ℕ → Word
-withByte w b =
+abbrev pub with_byte : Word → ℕ → Word
+with_byte w b =
     cond (ltb w.length 16) (record { bytes = set w.bytes w.length b; length = w.length + 1 }) (record { bytes = w.bytes; length = 17 })
 
-abbrev pub hasByte : Word → ℕ → ℕ → Bool
-hasByte w at b = ltb at w.length && (ltb at 16 && eqb (get_or w.bytes at 0) b)
+abbrev pub has_byte : Word → ℕ → ℕ → Bool
+has_byte w at b = ltb at w.length && (ltb at 16 && eqb (get_or w.bytes at 0) b)
 
 -- The bytes of the name.
 abbrev pub spelt : Word → List ℕ
@@ -29,25 +29,25 @@ abbrev pub labelled : List (List ℕ) → List ℕ → Label
 labelled ns x = cond (ltb (place_of x ns) (length ns)) (label.Is (place_of x ns)) label.None
 
 -- A word of more than 16 bytes is none of the list's.
-abbrev pub labelIn : List ℕ → Word → Label
-labelIn names w = cond (ltb w.length 17) (labelled (known names) (spelt w)) label.None
+abbrev pub label_in : List ℕ → Word → Label
+label_in names w = cond (ltb w.length 17) (labelled (known names) (spelt w)) label.None
 
 -- A name of the list can go on with b.
-abbrev pub goesOnBy : Word → ℕ → Bool
-goesOnBy w b = cond (eqb w.length 0) (isLetter b) (ltb w.length 16 && isNameByte b)
+abbrev pub goes_on_by : Word → ℕ → Bool
+goes_on_by w b = cond (eqb w.length 0) (is_letter b) (ltb w.length 16 && is_name_byte b)
 
-abbrev pub isLabel : Label → ℕ → Bool
-isLabel (label.Is a) l = eqb a l
-isLabel label.None l = false
+abbrev pub is_label : Label → ℕ → Bool
+is_label (label.Is a) l = eqb a l
+is_label label.None l = false
 
-abbrev pub standsAt : List ℕ → Word → ℕ → Bool
-standsAt names w l = not (eqb w.length 0) && isLabel (labelIn names w) l
+abbrev pub stands_at : List ℕ → Word → ℕ → Bool
+stands_at names w l = not (eqb w.length 0) && is_label (label_in names w) l
 
 -- The word on line a, where w stands before the first.
-abbrev pub wordFrom : Word → List ℕ → ℕ → Word
-wordFrom w [] a = no_word
-wordFrom w (b ∷ s) a = cond (eqb b 10) (cond (eqb a 0) w (wordFrom no_word s (a - 1))) (wordFrom (withByte w b) s a)
+abbrev pub word_from : Word → List ℕ → ℕ → Word
+word_from w [] a = no_word
+word_from w (b ∷ s) a = cond (eqb b 10) (cond (eqb a 0) w (word_from no_word s (a - 1))) (word_from (with_byte w b) s a)
 
 -- Of the first 32 lines.
 abbrev pub word_at : List ℕ → ℕ → Word
-word_at names a = cond (ltb a 32) (wordFrom no_word names a) no_word
+word_at names a = cond (ltb a 32) (word_from no_word names a) no_word

@@ -1,9 +1,9 @@
 // The list of names of tagged text (02, K1), each on a line of its own: whether it is good, the label of a name, the name
 // of a label. With it the class of each byte value, by which a name is told from what stands around it.
 ghost use Rattle.std.specs.Prelude.{◌≡◌};
-ghost use Rattle.grammar.specs.Bytes.{classOf};
-ghost use Rattle.grammar.specs.Names.{goodNames};
-ghost use Rattle.names.specs.Words.{no_word, withByte, hasByte, labelIn, goesOnBy, standsAt, word_at};
+ghost use Rattle.grammar.specs.Bytes.{class_of};
+ghost use Rattle.grammar.specs.Names.{good_names};
+ghost use Rattle.names.specs.Words.{no_word, with_byte, has_byte, label_in, goes_on_by, stands_at, word_at};
 
 // What may stand between tags; a letter; another byte of a name; "<", "/" and ">". Any other byte has class 0.
 pub const BLANK: u8 = 1;
@@ -279,7 +279,7 @@ const CLASSES: [u8; 256] = [
 ];
 
 pub fn class_of(byte: u8) -> u8
-    ensures { result ≡ classOf byte }
+    ensures { result ≡ class_of byte }
 {
     CLASSES[byte as usize]
 }
@@ -303,7 +303,7 @@ impl Word {
 
     // One byte more.
     pub fn with(self, byte: u8) -> Word
-        ensures { result ≡ withByte self byte }
+        ensures { result ≡ with_byte self byte }
     {
         let at = self.length;
         let mut next = self;
@@ -318,7 +318,7 @@ impl Word {
 
     // Its byte at this place is that one.
     pub fn has(self, at: usize, byte: u8) -> bool
-        ensures { result ≡ hasByte self at byte }
+        ensures { result ≡ has_byte self at byte }
     {
         let length = self.length;
         if at < length {
@@ -340,7 +340,7 @@ pub enum Label {
 
 // Of the first 32 lines, the place of the first that is this word.
 pub fn label_of(names: &[u8], word: Word) -> Label
-    ensures { result ≡ labelIn names.now word }
+    ensures { result ≡ label_in names.now word }
 {
     let length = word.length;
     let mut label: u8 = 0;
@@ -370,7 +370,7 @@ pub fn label_of(names: &[u8], word: Word) -> Label
 
 // A name of the list can go on with this byte: it begins with a letter, and has at most 16 bytes.
 fn goes_on(word: Word, byte: u8) -> bool
-    ensures { result ≡ goesOnBy word byte }
+    ensures { result ≡ goes_on_by word byte }
 {
     let class = class_of(byte);
     if word.length == 0 {
@@ -381,7 +381,7 @@ fn goes_on(word: Word, byte: u8) -> bool
 
 // The word may stand in the list as the name of this label: it is not empty, and it is found there first.
 fn stands(names: &[u8], word: Word, label: u64) -> bool
-    ensures { result ≡ standsAt names.now word label }
+    ensures { result ≡ stands_at names.now word label }
 {
     if word.length == 0 {
         return false;
@@ -398,7 +398,7 @@ pub const LONGEST: usize = 544;
 
 // The list is good: 1 to 32 different names of 1 to 16 bytes, each followed by one byte 10.
 pub fn good(names: &[u8]) -> bool
-    ensures { result ≡ goodNames names.now }
+    ensures { result ≡ good_names names.now }
 {
     let mut word = Word::none();
     let mut label: u64 = 0;

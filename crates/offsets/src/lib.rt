@@ -2,12 +2,12 @@
 //
 // n and k are within 01's sizes; the opening body begins at 29.
 ghost use Rattle.std.specs.Prelude.{◌≡◌, ◌<◌, ◌≤◌};
-ghost use Rattle.meaning.specs.Table.{bodyAt, bodyLength};
+ghost use Rattle.meaning.specs.Table.{body_at, body_length};
 
 // Where the point body begins; the opening body begins at 29.
 fn point_at(k: u64) -> u64
     requires { k ≤ 32 }
-    ensures { result ≡ bodyAt 0 k 1 }
+    ensures { result ≡ body_at 0 k 1 }
 {
     29 + k
 }
@@ -15,7 +15,7 @@ fn point_at(k: u64) -> u64
 // Where the mark body begins.
 fn mark_at(n: u64, k: u64) -> u64
     requires { (n ≤ 64) × (k ≤ 32) }
-    ensures { result ≡ bodyAt n k 2 }
+    ensures { result ≡ body_at n k 2 }
 {
     point_at(k) + n * k
 }
@@ -23,7 +23,7 @@ fn mark_at(n: u64, k: u64) -> u64
 // Where the apply body begins.
 fn apply_at(n: u64, k: u64) -> u64
     requires { (n ≤ 64) × (k ≤ 32) }
-    ensures { result ≡ bodyAt n k 3 }
+    ensures { result ≡ body_at n k 3 }
 {
     mark_at(n, k) + n
 }
@@ -31,7 +31,7 @@ fn apply_at(n: u64, k: u64) -> u64
 // Where the final body begins.
 fn final_at(n: u64, k: u64) -> u64
     requires { (n ≤ 64) × (k ≤ 32) }
-    ensures { result ≡ bodyAt n k 4 }
+    ensures { result ≡ body_at n k 4 }
 {
     apply_at(n, k) + n * n
 }
@@ -39,7 +39,7 @@ fn final_at(n: u64, k: u64) -> u64
 // The whole file's length.
 pub fn file_length(n: u64, k: u64) -> u64
     requires { (n ≤ 64) × (k ≤ 32) }
-    ensures { result ≡ bodyAt n k 5 }
+    ensures { result ≡ body_at n k 5 }
 {
     final_at(n, k) + n
 }
@@ -47,7 +47,7 @@ pub fn file_length(n: u64, k: u64) -> u64
 // Where body i begins, counted from 0.
 pub fn body_at(n: u64, k: u64, i: u64) -> u64
     requires { (n ≤ 64) × (k ≤ 32) × (i < 5) }
-    ensures { result ≡ bodyAt n k i }
+    ensures { result ≡ body_at n k i }
 {
     match i {
         0 => 29,
@@ -61,7 +61,7 @@ pub fn body_at(n: u64, k: u64, i: u64) -> u64
 // The length of body i, counted from 0.
 pub fn body_length(n: u64, k: u64, i: u64) -> u64
     requires { (n ≤ 64) × (k ≤ 32) × (i < 5) }
-    ensures { result ≡ bodyLength n k i }
+    ensures { result ≡ body_length n k i }
 {
     match i {
         0 => k,

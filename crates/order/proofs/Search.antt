@@ -11,24 +11,24 @@ use lib.ListN.{get_or}
 use borrow.Author.Tests.{lt-ltb, le-ltb}
 use Rattle.meaning.specs.Search.{searched}
 use Rattle.meaning.proofs.Search.{decided, Rest}
-use Rattle.places.specs.Places.{rowLength, labelLevel}
+use Rattle.places.specs.Places.{row_length, label_level}
 use Rattle.places.proofs.Rows.{row_fits}
 use Rattle.order.specs.declared.Shape.{Shape}
 use Rattle.order.specs.declared.Place.{Place}
 use Rattle.order.specs.declared.Place.TheVariants.{Fine, At}
-use Rattle.order.specs.Order.{cellRight, labelRight, labels_from, wordRight, firstFrom}
+use Rattle.order.specs.Order.{cell_right, label_right, labels_from, word_right, first_from}
 
 module _ (s : Shape) (words : List ℕ) where
   -- A place in a row is its row's place and the word's own in the row.
   pub at-cell :
-      (i r c : ℕ) → i ≡ r * rowLength s.allowed + c → c < rowLength s.allowed → r < s.rows →
-      wordRight s words i ≡ cellRight s words r c
+      (i r c : ℕ) → i ≡ r * row_length s.allowed + c → c < row_length s.allowed → r < s.rows →
+      word_right s words i ≡ cell_right s words r c
   at-cell i r c e h l =
-      let inside : r * rowLength s.allowed + rowLength s.allowed ≤ s.rows * rowLength s.allowed = row_fits s.rows r (rowLength s.allowed) _ l (omega arith) in
-      rw (e, lt-ltb (r * rowLength s.allowed + c) (s.rows * rowLength s.allowed) (omega (arith, inside)), digits_div r h, digits_mod r h)
+      let inside : r * row_length s.allowed + row_length s.allowed ≤ s.rows * row_length s.allowed = row_fits s.rows r (row_length s.allowed) _ l (omega arith) in
+      rw (e, lt-ltb (r * row_length s.allowed + c) (s.rows * row_length s.allowed) (omega (arith, inside)), digits_div r h, digits_mod r h)
 
   -- After the rows it is that of a label.
-  pub at_label : (i l : ℕ) → i ≡ labels_from s + l → wordRight s words i ≡ labelRight s (labelLevel l) (get_or words i 0)
+  pub at_label : (i l : ℕ) → i ≡ labels_from s + l → word_right s words i ≡ label_right s (label_level l) (get_or words i 0)
   at_label i l e =
       let back : labels_from s + l - labels_from s ≡ l = omega arith in
       rw (e, le-ltb (labels_from s + l) (labels_from s) (omega arith), back)
@@ -38,34 +38,34 @@ abbrev or_else : Place → Place → Place
 or_else Fine q = q
 or_else (At j) q = At j
 
-cond-or : (b : Bool) (p q : Place) (j : ℕ) → cond b (or_else p q) (At j) ≡ or_else (cond b p (At j)) q
-cond-or true p q j = refl
-cond-or false p q j = refl
+cond_or : (b : Bool) (p q : Place) (j : ℕ) → cond b (or_else p q) (At j) ≡ or_else (cond b p (At j)) q
+cond_or true p q j = refl
+cond_or false p q j = refl
 
 module _ (right : ℕ → Bool) where
   -- A search over n + m places: the first n decide, or else the rest does.
-  split : (n m i : ℕ) → firstFrom right i (n + m) ≡ or_else (firstFrom right i n) (firstFrom right (i + n) m)
+  split : (n m i : ℕ) → first_from right i (n + m) ≡ or_else (first_from right i n) (first_from right (i + n) m)
   unfolding searched
   split zero m i = rw (zero-add m, add-zero i)
   split (suc n) m i =
       let e : i + 1 + n ≡ i + suc n = omega arith in
-      rw (suc-add n m, split n m (i + 1), e) (cond-or (right i) _ _ i)
+      rw (suc-add n m, split n m (i + 1), e) (cond_or (right i) _ _ i)
 
   -- Where nothing is found, all is right.
-  pub fine-all : (n i : ℕ) → firstFrom right i n ≡ Fine → (j : ℕ) → i ≤ j → j < i + n → right j ≡ true
-  fine-all n i e =
+  pub fine_all : (n i : ℕ) → first_from right i n ≡ Fine → (j : ℕ) → i ≤ j → j < i + n → right j ≡ true
+  fine_all n i e =
       ⊎_elim (λ h. h.1) (λ h. let no : At h.place ≡ Fine = sym h.is ∙ e in let z : ◌≡◌ {A = ℕ} 0 1 = cc in absurd (omega (arith, z)))
       (decided At Fine right n i)
 
   -- A search over n places, of which the first i passed, and then m that are searched together.
   module _ (n : ℕ) where
-    parted : (m i : ℕ) → Rest At Fine right n i → i + m ≤ n → or_else (firstFrom right i m) (firstFrom right (i + m) (n - (i + m))) ≡ firstFrom right 0 n
+    parted : (m i : ℕ) → Rest At Fine right n i → i + m ≤ n → or_else (first_from right i m) (first_from right (i + m) (n - (i + m))) ≡ first_from right 0 n
     parted m i h l =
         let z : n - i ≡ m + (n - (i + m)) = omega arith in
         sym (split m (n - (i + m)) i) ∙ (rw z at h)
 
-    pub rest-fine : (m i j : ℕ) → Rest At Fine right n i → i + m ≤ n → firstFrom right i m ≡ Fine → j ≡ i + m → Rest At Fine right n j
-    rest-fine m i j h l e q = rw q (rw e at (parted m i h l))
+    pub rest_fine : (m i j : ℕ) → Rest At Fine right n i → i + m ≤ n → first_from right i m ≡ Fine → j ≡ i + m → Rest At Fine right n j
+    rest_fine m i j h l e q = rw q (rw e at (parted m i h l))
 
-    pub rest-fault : (m i k : ℕ) → Rest At Fine right n i → i + m ≤ n → firstFrom right i m ≡ At k → At k ≡ firstFrom right 0 n
-    rest-fault m i k h l e = rw e at (parted m i h l)
+    pub rest_fault : (m i k : ℕ) → Rest At Fine right n i → i + m ≤ n → first_from right i m ≡ At k → At k ≡ first_from right 0 n
+    rest_fault m i k h l e = rw e at (parted m i h l)

@@ -2,8 +2,8 @@
 //
 // Any words are judged, as long as they are as many as the rows and levels ask for. The rows come first, then the labels.
 ghost use Rattle.std.specs.Prelude.{◌≡◌, ℕ, ◌+◌, ◌*◌, ◌<◌, ◌≤◌, length};
-ghost use Rattle.places.specs.Places.{levelLength, rowLength, row_at, stateAt};
-ghost use Rattle.order.specs.Order.{cellRight, labelRight, labels_from, wordRight, firstFrom, firstFault};
+ghost use Rattle.places.specs.Places.{level_length, row_length, row_at, state_at};
+ghost use Rattle.order.specs.Order.{cell_right, label_right, labels_from, word_right, first_from, first_fault};
 
 // What the words are judged by.
 #[derive(Drop)]
@@ -29,8 +29,8 @@ pub enum Place {
 
 // Is the word at c of row r in order?
 fn cell_right(words: &[u64], s: Shape, r: usize, c: usize) -> bool
-    requires { (s.allowed ≤ 40) × (s.rows ≤ 65) × (r < s.rows) × (c < rowLength s.allowed) × (row_at s.allowed s.rows ≤ length words.now) }
-    ensures { result ≡ cellRight s words.now r c }
+    requires { (s.allowed ≤ 40) × (s.rows ≤ 65) × (r < s.rows) × (c < row_length s.allowed) × (row_at s.allowed s.rows ≤ length words.now) }
+    ensures { result ≡ cell_right s words.now r c }
 {
     let w = places::row_length(s.allowed);
     let x = words[r * w + c];
@@ -53,7 +53,7 @@ fn cell_right(words: &[u64], s: Shape, r: usize, c: usize) -> bool
 // The first word out of order among those of level l in row r.
 fn level_fault(words: &[u64], s: Shape, r: usize, l: usize) -> Place
     requires { (s.allowed ≤ 40) × (s.rows ≤ 65) × (r < s.rows) × (l ≤ s.allowed) × (row_at s.allowed s.rows ≤ length words.now) }
-    ensures { result ≡ firstFrom (wordRight s words.now) (row_at s.allowed r + stateAt l) levelLength }
+    ensures { result ≡ first_from (word_right s words.now) (row_at s.allowed r + state_at l) level_length }
 {
     let from = r * places::row_length(s.allowed);
     let at = places::state_at(l);
@@ -74,7 +74,7 @@ fn level_fault(words: &[u64], s: Shape, r: usize, l: usize) -> Place
 // The first word out of order, in any row and level.
 fn rows_fault(words: &[u64], s: Shape) -> Place
     requires { (s.allowed ≤ 40) × (s.rows ≤ 65) × (row_at s.allowed s.rows ≤ length words.now) }
-    ensures { result ≡ firstFrom (wordRight s words.now) 0 (labels_from s) }
+    ensures { result ≡ first_from (word_right s words.now) 0 (labels_from s) }
 {
     let rows = s.rows;
     let allowed = s.allowed;
@@ -102,7 +102,7 @@ fn rows_fault(words: &[u64], s: Shape) -> Place
 
 // Is x in order as the word of a level's label?
 fn label_right(s: Shape, level: usize, x: u64) -> bool
-    ensures { result ≡ labelRight s level x }
+    ensures { result ≡ label_right s level x }
 {
     if level <= s.depth {
         0 < x && x <= s.labels
@@ -114,8 +114,8 @@ fn label_right(s: Shape, level: usize, x: u64) -> bool
 // The first word out of order where none of the rows' is.
 fn labels_fault(words: &[u64], s: Shape) -> Place
     requires allowed_bound { (s.allowed ≤ 40) × (s.rows ≤ 65) × (labels_from s + s.allowed ≡ length words.now) }
-    requires value { Place.Fine ≡ firstFrom (wordRight s words.now) 0 (labels_from s) }
-    ensures { result ≡ firstFault s words.now }
+    requires value { Place.Fine ≡ first_from (word_right s words.now) 0 (labels_from s) }
+    ensures { result ≡ first_fault s words.now }
 {
     let from = s.rows * places::row_length(s.allowed);
     let mut i: usize = 0;
@@ -131,7 +131,7 @@ fn labels_fault(words: &[u64], s: Shape) -> Place
 // The first word out of order, in any row and level or of any label.
 pub fn first_fault(words: &[u64], s: Shape) -> Place
     requires { (s.allowed ≤ 40) × (s.rows ≤ 65) × (labels_from s + s.allowed ≡ length words.now) }
-    ensures { result ≡ firstFault s words.now }
+    ensures { result ≡ first_fault s words.now }
 {
     let fault = rows_fault(words, s);
     match fault {

@@ -5,33 +5,33 @@ use Prim.Native.Nat.{ℕ, zero, suc, ◌+◌, ◌-◌, ◌<◌, ◌≤◌}
 use native.Mathlib.Omega.{arith}
 use lib.ListN.{length, get_or, set, take, drop, replicate, length-append, take-append-drop}
 use lib.Seq.{take-suc, set_at, get_or-append_seam}
-use Rattle.meaning.specs.Streams.{allButNewest}
+use Rattle.meaning.specs.Streams.{all_but_newest}
 use Rattle.places.specs.Places.{label_at}
-use Rattle.places.specs.Memory.{openWords, labelsWords, labelIn, open_in, LabelsIn}
-use Rattle.places.proofs.Words.{padded-length}
-use Rattle.places.proofs.Zeros.{rest-of-zeros}
+use Rattle.places.specs.Memory.{open_words, labels_words, label_in, open_in, LabelsIn}
+use Rattle.places.proofs.Words.{padded_length}
+use Rattle.places.proofs.Zeros.{rest_of_zeros}
 
-pub open-words-length : (o : List ℕ) → length (openWords o) ≡ length o
-open-words-length [] = refl
-open-words-length (a ∷ o) = simp (length-append, open-words-length o) (omega arith)
+pub open_words_length : (o : List ℕ) → length (open_words o) ≡ length o
+open_words_length [] = refl
+open_words_length (a ∷ o) = simp (length-append, open_words_length o) (omega arith)
 
-pub labels_length : (depth : ℕ) (o : List ℕ) → length o ≤ depth → length (labelsWords depth o) ≡ depth
-labels_length depth o h = padded-length depth (openWords o) (omega (arith, open-words-length o))
+pub labels_length : (depth : ℕ) (o : List ℕ) → length o ≤ depth → length (labels_words depth o) ≡ depth
+labels_length depth o h = padded_length depth (open_words o) (omega (arith, open_words_length o))
 
-pub open-length : (words : List ℕ) (d : ℕ) → length (open_in words d) ≡ d
-open-length words zero = refl
-open-length words (suc d) = ap suc (open-length words d)
+pub open_length : (words : List ℕ) (d : ℕ) → length (open_in words d) ≡ d
+open_length words zero = refl
+open_length words (suc d) = ap suc (open_length words d)
 
 -- The words of labels stand for them, whatever stands after.
-pub open-back : (o rest : List ℕ) → open_in (openWords o ++ rest) (length o) ≡ o
-open-back [] rest = refl
-open-back (a ∷ o) rest =
-    let at : label_at (suc (length o)) ≡ length (openWords o) = omega (arith, open-words-length o) in
-    let a_back : labelIn (suc a) ≡ a = omega arith in
-    rw (append_assoc (openWords o) (suc a ∷ []) rest, at, get_or-append_seam (openWords o) (suc a) rest 0, a_back, open-back o (suc a ∷ rest))
+pub open_back : (o rest : List ℕ) → open_in (open_words o ++ rest) (length o) ≡ o
+open_back [] rest = refl
+open_back (a ∷ o) rest =
+    let at : label_at (suc (length o)) ≡ length (open_words o) = omega (arith, open_words_length o) in
+    let a_back : label_in (suc a) ≡ a = omega arith in
+    rw (append_assoc (open_words o) (suc a ∷ []) rest, at, get_or-append_seam (open_words o) (suc a) rest 0, a_back, open_back o (suc a ∷ rest))
 
 -- Words above 0 up to d are those of labels.
-under : (words : List ℕ) (d : ℕ) → d ≤ length words → ((i : ℕ) → i < d → 0 < get_or words i 0) → take d words ≡ openWords (open_in words d)
+under : (words : List ℕ) (d : ℕ) → d ≤ length words → ((i : ℕ) → i < d → 0 < get_or words i 0) → take d words ≡ open_words (open_in words d)
 under words zero h some = refl
 under words (suc d) h some =
     let at : label_at (suc d) ≡ d = omega arith in
@@ -41,46 +41,46 @@ under words (suc d) h some =
 -- Words above 0 up to d, and 0 from there on, are the labels' words of d open levels.
 pub labels-of-zeros :
     (words : List ℕ) (d : ℕ) → d ≤ length words → ((i : ℕ) → i < d → 0 < get_or words i 0) →
-    ((i : ℕ) → d ≤ i → i < length words → get_or words i 0 ≡ 0) → words ≡ labelsWords (length words) (open_in words d)
+    ((i : ℕ) → d ≤ i → i < length words → get_or words i 0 ≡ 0) → words ≡ labels_words (length words) (open_in words d)
 labels-of-zeros words d h some none =
     let o : List ℕ = open_in words d in
-    let left : length words - d ≡ length words - length (openWords o) = omega (arith, open-words-length o, open-length words d) in
+    let left : length words - d ≡ length words - length (open_words o) = omega (arith, open_words_length o, open_length words d) in
     sym (take-append-drop d words)
     ∙ ap (λ (ws : List ℕ). ws ++ drop d words) (under words d h some)
-    ∙ ap (λ (ws : List ℕ). openWords o ++ ws) (rest-of-zeros d words none ∙ ap (λ (n : ℕ). replicate n 0) left)
+    ∙ ap (λ (ws : List ℕ). open_words o ++ ws) (rest_of_zeros d words none ∙ ap (λ (n : ℕ). replicate n 0) left)
 
 module _ (words : List ℕ) (d : ℕ) (l : LabelsIn d words) where
   abbrev o : List ℕ
   o = open_in words d
 
-  size : length (openWords o) ≡ d
-  size = open-words-length o ∙ open-length words d
+  size : length (open_words o) ≡ d
+  size = open_words_length o ∙ open_length words d
 
   -- An open writes the word of its level.
-  pub opened-words : (a : ℕ) → d < length words → set words (label_at (d + 1)) (a + 1) ≡ labelsWords (length words) (a ∷ o)
-  opened-words a h =
+  pub opened_words : (a : ℕ) → d < length words → set words (label_at (d + 1)) (a + 1) ≡ labels_words (length words) (a ∷ o)
+  opened_words a h =
       let n : ℕ = length words in
-      let one : length (openWords (a ∷ o)) ≡ suc d = simp (length-append, size) (omega arith) in
-      let more : n - length (openWords o) ≡ suc (n - suc d) = omega (arith, size) in
-      let same : words ≡ openWords o ++ 0 ∷ replicate (n - suc d) 0 = l.same ∙ ap (λ (k : ℕ). openWords o ++ replicate k 0) more in
+      let one : length (open_words (a ∷ o)) ≡ suc d = simp (length-append, size) (omega arith) in
+      let more : n - length (open_words o) ≡ suc (n - suc d) = omega (arith, size) in
+      let same : words ≡ open_words o ++ 0 ∷ replicate (n - suc d) 0 = l.same ∙ ap (λ (k : ℕ). open_words o ++ replicate k 0) more in
       let up : a + 1 ≡ suc a = omega arith in
       ap (λ (ws : List ℕ). set ws (label_at (d + 1)) (a + 1)) same
-      ∙ set_at (openWords o) 0 (replicate (n - suc d) 0) (a + 1) (label_at (d + 1)) (omega (arith, size))
-      ∙ rw (up, one) (sym (append_assoc (openWords o) (suc a ∷ []) (replicate (n - suc d) 0)))
+      ∙ set_at (open_words o) 0 (replicate (n - suc d) 0) (a + 1) (label_at (d + 1)) (omega (arith, size))
+      ∙ rw (up, one) (sym (append_assoc (open_words o) (suc a ∷ []) (replicate (n - suc d) 0)))
 
 -- A close clears it.
-pub closed-words :
-    (words : List ℕ) (d : ℕ) → LabelsIn d words → 0 < d → set words (label_at d) 0 ≡ labelsWords (length words) (allButNewest (open_in words d))
-closed-words words zero l h = absurd (omega arith)
-closed-words words (suc d) l h =
+pub closed_words :
+    (words : List ℕ) (d : ℕ) → LabelsIn d words → 0 < d → set words (label_at d) 0 ≡ labels_words (length words) (all_but_newest (open_in words d))
+closed_words words zero l h = absurd (omega arith)
+closed_words words (suc d) l h =
     let n : ℕ = length words in
     let o : List ℕ = open_in words d in
-    let x : ℕ = labelIn (get_or words (label_at (suc d)) 0) in
-    let size : length (openWords o) ≡ d = open-words-length o ∙ open-length words d in
-    let one : length (openWords (x ∷ o)) ≡ suc d = simp (length-append, size) (omega arith) in
-    let more : n - length (openWords o) ≡ suc (n - suc d) = omega (arith, size, l.deep) in
-    let same : words ≡ openWords o ++ suc x ∷ replicate (n - suc d) 0 =
-    l.same ∙ ap (λ (k : ℕ). openWords (x ∷ o) ++ replicate (n - k) 0) one ∙ append_assoc (openWords o) (suc x ∷ []) (replicate (n - suc d) 0) in
+    let x : ℕ = label_in (get_or words (label_at (suc d)) 0) in
+    let size : length (open_words o) ≡ d = open_words_length o ∙ open_length words d in
+    let one : length (open_words (x ∷ o)) ≡ suc d = simp (length-append, size) (omega arith) in
+    let more : n - length (open_words o) ≡ suc (n - suc d) = omega (arith, size, l.deep) in
+    let same : words ≡ open_words o ++ suc x ∷ replicate (n - suc d) 0 =
+    l.same ∙ ap (λ (k : ℕ). open_words (x ∷ o) ++ replicate (n - k) 0) one ∙ append_assoc (open_words o) (suc x ∷ []) (replicate (n - suc d) 0) in
     ap (λ (ws : List ℕ). set ws (label_at (suc d)) 0) same
-    ∙ set_at (openWords o) (suc x) (replicate (n - suc d) 0) 0 (label_at (suc d)) (omega (arith, size))
-    ∙ sym (ap (λ (k : ℕ). openWords o ++ replicate k 0) more)
+    ∙ set_at (open_words o) (suc x) (replicate (n - suc d) 0) 0 (label_at (suc d)) (omega (arith, size))
+    ∙ sym (ap (λ (k : ℕ). open_words o ++ replicate k 0) more)

@@ -8,7 +8,7 @@ use native.Mathlib.Omega.{arith}
 use lib.ListN.{length, take, drop, length-append, length-drop}
 use lib.Seq.{paste, length-take-le, take_at, drop_at, drop-drop, drop-paste}
 use Rattle.places.specs.Places.{row_of}
-use Rattle.places.specs.Memory.{Held, each, heldIn, heldsIn}
+use Rattle.places.specs.Memory.{Held, each, held_in, helds_in}
 
 ---------------------------------------------------------------- what is given for each row
 
@@ -22,11 +22,11 @@ module _ {A : Type 0} (g : Held → List A) where
   each_map f (h ∷ hs) = ap (λ (zs : List A). g (f h) ++ zs) (each_map f hs)
 
   -- One row more.
-  pub each_next : (w d r : ℕ) (words : List ℕ) → each g (heldsIn w d (r + 1) words) ≡ each g (heldsIn w d r words) ++ g (heldIn d (row_of w r words))
+  pub each_next : (w d r : ℕ) (words : List ℕ) → each g (helds_in w d (r + 1) words) ≡ each g (helds_in w d r words) ++ g (held_in d (row_of w r words))
   each_next w d r words =
-      ap (λ (k : ℕ). each g (heldsIn w d k words)) (add-one r)
-      ∙ each_append (heldsIn w d r words) (heldIn d (row_of w r words) ∷ [])
-      ∙ ap (λ (zs : List A). each g (heldsIn w d r words) ++ zs) (append-nil (g (heldIn d (row_of w r words))))
+      ap (λ (k : ℕ). each g (helds_in w d k words)) (add-one r)
+      ∙ each_append (helds_in w d r words) (held_in d (row_of w r words) ∷ [])
+      ∙ ap (λ (zs : List A). each g (helds_in w d r words) ++ zs) (append-nil (g (held_in d (row_of w r words))))
 
 ---------------------------------------------------------------- where rows are
 
@@ -51,22 +51,22 @@ past_row w r words = drop-drop w (r * w) words ∙ ap (λ (k : ℕ). drop k word
 ---------------------------------------------------------------- a part put anew
 
 -- As long as before.
-pub put-length : (words ys : List ℕ) (at k : ℕ) → at + k ≤ length words → length ys ≡ k → length (take at words ++ (ys ++ drop k (drop at words))) ≡ length words
-put-length words ys at k h e = simp (length-append, length-take-le at words (omega arith), length-drop) (omega arith)
+pub put_length : (words ys : List ℕ) (at k : ℕ) → at + k ≤ length words → length ys ≡ k → length (take at words ++ (ys ++ drop k (drop at words))) ≡ length words
+put_length words ys at k h e = simp (length-append, length-take-le at words (omega arith), length-drop) (omega arith)
 
 -- Rows r and on as they were, other words in front of them.
 module _ (w r : ℕ) (words₀ front words : List ℕ) (e : words ≡ front ++ drop (r * w) words₀) (l : length front ≡ r * w) where
-  pub rest-as : drop (r * w) words ≡ drop (r * w) words₀
-  rest-as = ap (drop (r * w)) e ∙ drop_at front (drop (r * w) words₀) (r * w) l
+  pub rest_as : drop (r * w) words ≡ drop (r * w) words₀
+  rest_as = ap (drop (r * w)) e ∙ drop_at front (drop (r * w) words₀) (r * w) l
 
-  pub front-as : take (r * w) words ≡ front
-  front-as = ap (take (r * w)) e ∙ take_at front (drop (r * w) words₀) (r * w) l
+  pub front_as : take (r * w) words ≡ front
+  front_as = ap (take (r * w)) e ∙ take_at front (drop (r * w) words₀) (r * w) l
 
   -- Row r put anew: then rows r + 1 and on are.
   pub turned : (ys : List ℕ) → take (r * w) words ++ (ys ++ drop w (drop (r * w) words)) ≡ front ++ ys ++ drop ((r + 1) * w) words₀
   turned ys =
-      ap (λ (xs : List ℕ). xs ++ (ys ++ drop w (drop (r * w) words))) front-as
-      ∙ ap (λ (xs : List ℕ). front ++ (ys ++ drop w xs)) rest-as
+      ap (λ (xs : List ℕ). xs ++ (ys ++ drop w (drop (r * w) words))) front_as
+      ∙ ap (λ (xs : List ℕ). front ++ (ys ++ drop w xs)) rest_as
       ∙ ap (λ (xs : List ℕ). front ++ (ys ++ xs)) (past_row w r words₀)
       ∙ sym (append_assoc front ys (drop ((r + 1) * w) words₀))
 
@@ -78,14 +78,14 @@ module _ (words xs : List ℕ) (at w : ℕ) (h : at + w ≤ length words) (l : w
   before : length (take at words) ≡ at
   before = length-take-le at words (omega arith)
 
-  pub copied-part : take w (drop at (paste words at xs w)) ≡ take w xs
-  copied-part =
+  pub copied_part : take w (drop at (paste words at xs w)) ≡ take w xs
+  copied_part =
       ap (λ (zs : List ℕ). take w (drop at zs)) pasted
       ∙ ap (take w) (drop_at (take at words) (take w xs ++ drop (at + w) words) at before)
       ∙ take_at (take w xs) (drop (at + w) words) w (length-take-le w xs l)
 
-  pub copied-put : (ys : List ℕ) → take at (paste words at xs w) ++ (ys ++ drop w (drop at (paste words at xs w))) ≡ take at words ++ ys ++ drop (at + w) words
-  copied-put ys =
+  pub copied_put : (ys : List ℕ) → take at (paste words at xs w) ++ (ys ++ drop w (drop at (paste words at xs w))) ≡ take at words ++ ys ++ drop (at + w) words
+  copied_put ys =
       ap (λ (zs : List ℕ). zs ++ (ys ++ drop w (drop at (paste words at xs w)))) (ap (take at) pasted ∙ take_at (take at words) (take w xs ++ drop (at + w) words) at before)
       ∙ ap (λ (zs : List ℕ). take at words ++ (ys ++ zs)) (drop-drop w at (paste words at xs w) ∙ drop-paste words at xs w (omega arith) l)
       ∙ sym (append_assoc (take at words) ys (drop (at + w) words))

@@ -4,62 +4,62 @@
 use Rattle.std.specs.Prelude.{List, ◌++◌, ℕ, ◌+◌, ◌-◌, ◌*◌, ◌/◌, ◌%◌, length, take, drop, replicate}
 
 -- Where a row's position stands in it, where its levels begin, and how many words a level has.
-abbrev pub positionAt : ℕ
-positionAt = 0
+abbrev pub position_at : ℕ
+position_at = 0
 
-abbrev pub levelsAt : ℕ
-levelsAt = 1
+abbrev pub levels_at : ℕ
+levels_at = 1
 
-abbrev pub levelLength : ℕ
-levelLength = 3
+abbrev pub level_length : ℕ
+level_length = 3
 
 -- Where the three words of a level stand.
-abbrev pub stateAt : ℕ → ℕ
-stateAt l = levelsAt + levelLength * l
+abbrev pub state_at : ℕ → ℕ
+state_at l = levels_at + level_length * l
 
-abbrev pub selectingAt : ℕ → ℕ
-selectingAt l = stateAt l + 1
+abbrev pub selecting_at : ℕ → ℕ
+selecting_at l = state_at l + 1
 
-abbrev pub rejectingAt : ℕ → ℕ
-rejectingAt l = stateAt l + 2
+abbrev pub rejecting_at : ℕ → ℕ
+rejecting_at l = state_at l + 2
 
 -- The level that the word at c of a row belongs to, the position apart, and which of its three words that is: 0 its
 -- state.
-abbrev pub levelOf : ℕ → ℕ
-levelOf c = (c - levelsAt) / levelLength
+abbrev pub level_of : ℕ → ℕ
+level_of c = (c - levels_at) / level_length
 
 abbrev pub part_of : ℕ → ℕ
-part_of c = (c - levelsAt) % levelLength
+part_of c = (c - levels_at) % level_length
 
 -- How many words a row has.
-abbrev pub rowLength : ℕ → ℕ
-rowLength depth = stateAt (depth + 1)
+abbrev pub row_length : ℕ → ℕ
+row_length depth = state_at (depth + 1)
 
 -- Where row r begins.
 abbrev pub row_at : ℕ → ℕ → ℕ
-row_at depth r = r * rowLength depth
+row_at depth r = r * row_length depth
 
 -- How many words the rows have, row 0 and the rows for alive positions. The labels' words stand after them.
-abbrev pub rowsLength : ℕ → ℕ → ℕ
-rowsLength rows depth = row_at depth (rows + 1)
+abbrev pub rows_length : ℕ → ℕ → ℕ
+rows_length rows depth = row_at depth (rows + 1)
 
 -- Where the word of a level above 0 stands among the labels' words, and the level that the word at i of them belongs to.
 abbrev pub label_at : ℕ → ℕ
 label_at l = l - 1
 
-abbrev pub labelLevel : ℕ → ℕ
-labelLevel i = i + 1
+abbrev pub label_level : ℕ → ℕ
+label_level i = i + 1
 
 -- How many words work memory has: one for the label of each level allowed, beside the rows'.
-abbrev pub workLength : ℕ → ℕ → ℕ
-workLength rows depth = rowsLength rows depth + depth
+abbrev pub work_length : ℕ → ℕ → ℕ
+work_length rows depth = rows_length rows depth + depth
 
 -- The rows' words and the labels' words of work memory.
-abbrev pub rowsPart : ℕ → ℕ → List ℕ → List ℕ
-rowsPart rows depth words = take (rowsLength rows depth) words
+abbrev pub rows_part : ℕ → ℕ → List ℕ → List ℕ
+rows_part rows depth words = take (rows_length rows depth) words
 
-abbrev pub labelsPart : ℕ → ℕ → List ℕ → List ℕ
-labelsPart rows depth words = drop (rowsLength rows depth) words
+abbrev pub labels_part : ℕ → ℕ → List ℕ → List ℕ
+labels_part rows depth words = drop (rows_length rows depth) words
 
 -- The words of row r, where a row has w.
 abbrev pub row_of : ℕ → ℕ → List ℕ → List ℕ

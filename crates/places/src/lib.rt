@@ -3,7 +3,7 @@
 // Rows and levels are counted from 0. A row's words are counted from its own first word, the labels' words from the first
 // of them, the memory's from row 0.
 ghost use Rattle.std.specs.Prelude.{◌≡◌, ◌<◌, ◌≤◌};
-ghost use Rattle.places.specs.Places.{stateAt, selectingAt, rejectingAt, levelOf, part_of, rowLength, rowsLength, label_at, labelLevel, workLength};
+ghost use Rattle.places.specs.Places.{state_at, selecting_at, rejecting_at, level_of, part_of, row_length, rows_length, label_at, label_level, work_length};
 
 // Where its position stands in a row, where its levels begin, and how many words a level has.
 pub const POSITION: usize = 0;
@@ -15,7 +15,7 @@ const LEVEL_LENGTH: usize = 3;
 // Where the state of a level stands in its row.
 pub fn state_at(level: usize) -> usize
     requires { level ≤ 41 }
-    ensures { result ≡ stateAt level }
+    ensures { result ≡ state_at level }
 {
     LEVELS + LEVEL_LENGTH * level
 }
@@ -23,7 +23,7 @@ pub fn state_at(level: usize) -> usize
 // Where the selecting set of a level stands in its row.
 pub fn selecting_at(level: usize) -> usize
     requires { level ≤ 41 }
-    ensures { result ≡ selectingAt level }
+    ensures { result ≡ selecting_at level }
 {
     state_at(level) + 1
 }
@@ -31,7 +31,7 @@ pub fn selecting_at(level: usize) -> usize
 // Where the rejecting set of a level stands in its row.
 pub fn rejecting_at(level: usize) -> usize
     requires { level ≤ 41 }
-    ensures { result ≡ rejectingAt level }
+    ensures { result ≡ rejecting_at level }
 {
     state_at(level) + 2
 }
@@ -39,7 +39,7 @@ pub fn rejecting_at(level: usize) -> usize
 // The level that a word of a row belongs to, its position apart.
 pub fn level_of(c: usize) -> usize
     requires { 0 < c }
-    ensures { result ≡ levelOf c }
+    ensures { result ≡ level_of c }
 {
     (c - LEVELS) / LEVEL_LENGTH
 }
@@ -55,7 +55,7 @@ pub fn part_of(c: usize) -> usize
 // How many words a row has.
 pub fn row_length(depth: usize) -> usize
     requires { depth ≤ 40 }
-    ensures { result ≡ rowLength depth }
+    ensures { result ≡ row_length depth }
 {
     state_at(depth + 1)
 }
@@ -63,7 +63,7 @@ pub fn row_length(depth: usize) -> usize
 // How many words the rows have: where the labels' words begin.
 pub fn rows_length(rows: usize, depth: usize) -> usize
     requires { (rows ≤ 64) × (depth ≤ 40) }
-    ensures { result ≡ rowsLength rows depth }
+    ensures { result ≡ rows_length rows depth }
 {
     (rows + 1) * row_length(depth)
 }
@@ -79,7 +79,7 @@ pub fn label_at(level: usize) -> usize
 // The level that a word of the labels' belongs to.
 pub fn label_level(i: usize) -> usize
     requires { i < 40 }
-    ensures { result ≡ labelLevel i }
+    ensures { result ≡ label_level i }
 {
     i + 1
 }
@@ -87,7 +87,7 @@ pub fn label_level(i: usize) -> usize
 // How many words work memory has.
 pub fn work_length(rows: usize, depth: usize) -> usize
     requires { (rows ≤ 64) × (depth ≤ 40) }
-    ensures { result ≡ workLength rows depth }
+    ensures { result ≡ work_length rows depth }
 {
     rows_length(rows, depth) + depth
 }

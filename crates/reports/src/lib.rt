@@ -4,11 +4,11 @@
 ghost use Rattle.std.specs.Prelude.{◌≡◌, ℕ, ◌+◌, ◌*◌, ◌<◌, ◌≤◌, length, get_or};
 ghost use Rattle.meaning.specs.Table.{table_of};
 ghost use Rattle.bodies.specs.Sound.{Sound};
-ghost use Rattle.places.specs.Places.{positionAt, rowLength, row_of};
-ghost use Rattle.places.specs.Memory.{rowIn, heldIn, heldsIn, RowIn, RowsIn};
+ghost use Rattle.places.specs.Places.{position_at, row_length, row_of};
+ghost use Rattle.places.specs.Memory.{row_in, held_in, helds_in, RowIn, RowsIn};
 ghost use Rattle.rows.specs.Steps.{in_row};
-ghost use Rattle.reports.specs.Reports.{reportOf, reportsOf, endReport, endReports};
-ghost use Rattle.meaning.specs.Lent.{put_at, onFront};
+ghost use Rattle.reports.specs.Reports.{report_of, reports_of, end_report, end_reports};
+ghost use Rattle.meaning.specs.Lent.{put_at, on_front};
 
 // The report, if any, of a position whose newest state is s, in the sets of level d of the row; it is written at a place
 // of reports. Answers the place after it.
@@ -20,10 +20,10 @@ pub fn report_state(
     position: u64,
     at: usize,
 ) -> usize
-    requires row_len_bound { (length row.now ≤ rowLength 40) × (rowLength d ≤ length row.now) × (s < 64) }
+    requires row_len_bound { (length row.now ≤ row_length 40) × (row_length d ≤ length row.now) × (s < 64) }
     requires position_bound { (position ≤ 2147483647) × (at < length reports.old) }
-    ensures value { result ≡ at + length (reportOf (record { position = position; row = in_row s (rowIn d row.now) })) }
-    ensures reports_after { reports.new ≡ put_at at (reportOf (record { position = position; row = in_row s (rowIn d row.now) })) reports.old }
+    ensures value { result ≡ at + length (report_of (record { position = position; row = in_row s (row_in d row.now) })) }
+    ensures reports_after { reports.new ≡ put_at at (report_of (record { position = position; row = in_row s (row_in d row.now) })) reports.old }
 {
     if sets::holds(row[places::selecting_at(d)], s) {
         reports[at] = (2 * position + 1) as u32;
@@ -39,9 +39,9 @@ pub fn report_state(
 // The report, if any, of a row with newest level d. Answers the place after it.
 fn report_row(row: &[u64], reports: &mut [u32], d: usize, at: usize) -> usize
     requires row_in { RowIn 64 d row.now }
-    requires position_at_bound { (get_or row.now positionAt 0 ≤ 2147483647) × (at < length reports.old) }
-    ensures value { result ≡ at + length (reportOf (heldIn d row.now)) }
-    ensures reports_after { reports.new ≡ put_at at (reportOf (heldIn d row.now)) reports.old }
+    requires position_at_bound { (get_or row.now position_at 0 ≤ 2147483647) × (at < length reports.old) }
+    ensures value { result ≡ at + length (report_of (held_in d row.now)) }
+    ensures reports_after { reports.new ≡ put_at at (report_of (held_in d row.now)) reports.old }
 {
     report_state(
         row,
@@ -57,9 +57,9 @@ fn report_row(row: &[u64], reports: &mut [u32], d: usize, at: usize) -> usize
 pub fn report_rows(words: &[u64], reports: &mut [u32], w: usize, d: usize, n: usize) -> usize
     requires rows_in { RowsIn 64 w d n words.now }
     requires n_bound { (n ≤ 64) × (n < length reports.old) }
-    requires by_index { (r : ℕ) → r < n → get_or (row_of w r words.now) positionAt 0 ≤ 2147483647 }
-    ensures value { result ≡ length (reportsOf (heldsIn w d n words.now)) }
-    ensures reports_after { reports.new ≡ onFront (reportsOf (heldsIn w d n words.now)) reports.old }
+    requires by_index { (r : ℕ) → r < n → get_or (row_of w r words.now) position_at 0 ≤ 2147483647 }
+    ensures value { result ≡ length (reports_of (helds_in w d n words.now)) }
+    ensures reports_after { reports.new ≡ on_front (reports_of (helds_in w d n words.now)) reports.old }
 {
     let mut count = 0;
     let mut r = 0;
@@ -75,8 +75,8 @@ pub fn report_rows(words: &[u64], reports: &mut [u32], w: usize, d: usize, n: us
 fn report_end(row: &[u64], reports: &mut [u32], table: &[u8], at: usize)
     requires sound { Sound table.now }
     requires row_in { RowIn (table_of table.now).states 0 row.now }
-    requires position_at_bound { (get_or row.now positionAt 0 ≤ 2147483647) × (at < length reports.old) }
-    ensures { reports.new ≡ put_at at (endReport (table_of table.now) (heldIn 0 row.now)) reports.old }
+    requires position_at_bound { (get_or row.now position_at 0 ≤ 2147483647) × (at < length reports.old) }
+    ensures { reports.new ≡ put_at at (end_report (table_of table.now) (held_in 0 row.now)) reports.old }
 {
     let position = row[places::POSITION];
     if bodies::is_final(table, row[places::state_at(0)]) {
@@ -91,8 +91,8 @@ pub fn report_ends(words: &[u64], reports: &mut [u32], table: &[u8], w: usize, n
     requires sound { Sound table.now }
     requires rows_in { RowsIn (table_of table.now).states w 0 n words.now }
     requires n_bound { (n ≤ 64) × (n < length reports.old) }
-    requires by_index { (r : ℕ) → r < n → get_or (row_of w r words.now) positionAt 0 ≤ 2147483647 }
-    ensures { reports.new ≡ onFront (endReports (table_of table.now) (heldsIn w 0 n words.now)) reports.old }
+    requires by_index { (r : ℕ) → r < n → get_or (row_of w r words.now) position_at 0 ≤ 2147483647 }
+    ensures { reports.new ≡ on_front (end_reports (table_of table.now) (helds_in w 0 n words.now)) reports.old }
 {
     let mut r = 0;
     while r < n {

@@ -4,12 +4,12 @@
 // table that can be stepped by (`Sound`); each leaves the words of the row that the rule names.
 ghost use Rattle.std.specs.Prelude.{◌≡◌, not, ◌+◌, ◌<◌, ◌≤◌, length, get_or};
 ghost use Rattle.meaning.specs.Table.{table_of};
-ghost use Rattle.meaning.specs.Masks.{downOf};
-ghost use Rattle.meaning.specs.Rows.{pointRow, openRow, closeRow, markRow};
+ghost use Rattle.meaning.specs.Masks.{down_of};
+ghost use Rattle.meaning.specs.Rows.{point_row, open_row, close_row, mark_row};
 ghost use Rattle.bodies.specs.Sound.{Sound};
-ghost use Rattle.places.specs.Places.{rowLength};
-ghost use Rattle.places.specs.Memory.{levelIn, rowIn, heldIn, rowWords, RowIn};
-ghost use Rattle.rows.specs.Steps.{eventOf, Can, stepRow, onRow, nextState, in_row, isDecided, neither};
+ghost use Rattle.places.specs.Places.{row_length};
+ghost use Rattle.places.specs.Memory.{level_in, row_in, held_in, row_words, RowIn};
+ghost use Rattle.rows.specs.Steps.{event_of, Can, step_row, on_row, next_state, in_row, is_decided, neither};
 
 // An event that steps every row.
 #[derive(Drop)]
@@ -24,7 +24,7 @@ fn point_row(row: &mut [u64], table: &[u8], a: u64, d: usize)
     requires sound { Sound table.now }
     requires row_in { RowIn (table_of table.now).states d row.old }
     requires a_bound { a < (table_of table.now).labels }
-    ensures { row.new ≡ rowWords (length row.old) (onRow (pointRow (table_of table.now) a) (heldIn d row.old)) }
+    ensures { row.new ≡ row_words (length row.old) (on_row (point_row (table_of table.now) a) (held_in d row.old)) }
 {
     let at = places::state_at(d);
     row[at] = bodies::point(table, row[at], a);
@@ -34,8 +34,8 @@ fn point_row(row: &mut [u64], table: &[u8], a: u64, d: usize)
 fn open_row(row: &mut [u64], table: &[u8], accs: &[u64; 64], a: u64, d: usize)
     requires sound { Sound table.now }
     requires row_in { RowIn (table_of table.now).states d row.old }
-    requires a_bound { (a < (table_of table.now).labels) × (rowLength (d + 1) ≤ length row.old) }
-    ensures { row.new ≡ rowWords (length row.old) (onRow (openRow (table_of table.now) accs.now a) (heldIn d row.old)) }
+    requires a_bound { (a < (table_of table.now).labels) × (row_length (d + 1) ≤ length row.old) }
+    ensures { row.new ≡ row_words (length row.old) (on_row (open_row (table_of table.now) accs.now a) (held_in d row.old)) }
 {
     let q = row[places::state_at(d)];
     let selecting = sets::down(table, accs, q, row[places::selecting_at(d)]);
@@ -50,7 +50,7 @@ fn close_row(row: &mut [u64], table: &[u8], d: usize)
     requires sound { Sound table.now }
     requires row_in { RowIn (table_of table.now).states d row.old }
     requires d_nonzero { 0 < d }
-    ensures { row.new ≡ rowWords (length row.old) (onRow (closeRow (table_of table.now)) (heldIn d row.old)) }
+    ensures { row.new ≡ row_words (length row.old) (on_row (close_row (table_of table.now)) (held_in d row.old)) }
 {
     let from = places::state_at(d - 1);
     let at = places::state_at(d);
@@ -64,8 +64,8 @@ fn close_row(row: &mut [u64], table: &[u8], d: usize)
 pub fn step_row(row: &mut [u64], table: &[u8], accs: &[u64; 64], step: Step, d: usize)
     requires sound { Sound table.now }
     requires row_in { RowIn (table_of table.now).states d row.old }
-    requires can { Can (table_of table.now) (length row.old) d (eventOf step) }
-    ensures { row.new ≡ rowWords (length row.old) (onRow (stepRow (table_of table.now) accs.now (eventOf step)) (heldIn d row.old)) }
+    requires can { Can (table_of table.now) (length row.old) d (event_of step) }
+    ensures { row.new ≡ row_words (length row.old) (on_row (step_row (table_of table.now) accs.now (event_of step)) (held_in d row.old)) }
 {
     match step {
         Step::Open(a) => open_row(row, table, accs, a, d),
@@ -78,7 +78,7 @@ pub fn step_row(row: &mut [u64], table: &[u8], accs: &[u64; 64], step: Step, d: 
 pub fn mark_row(row: &mut [u64], table: &[u8], d: usize, position: u64)
     requires sound { Sound table.now }
     requires row_in { RowIn (table_of table.now).states d row.old }
-    ensures { row.new ≡ rowWords (length row.old) (record { position = position; row = markRow (table_of table.now) (rowIn d row.old) }) }
+    ensures { row.new ≡ row_words (length row.old) (record { position = position; row = mark_row (table_of table.now) (row_in d row.old) }) }
 {
     let at = places::state_at(d);
     row[places::POSITION] = position;
@@ -89,8 +89,8 @@ pub fn mark_row(row: &mut [u64], table: &[u8], d: usize, position: u64)
 pub fn next_state(row: &[u64], table: &[u8], step: Step, d: usize) -> u64
     requires sound { Sound table.now }
     requires row_in { RowIn (table_of table.now).states d row.now }
-    requires can { Can (table_of table.now) (length row.now) d (eventOf step) }
-    ensures { result ≡ nextState (table_of table.now) (eventOf step) (rowIn d row.now) }
+    requires can { Can (table_of table.now) (length row.now) d (event_of step) }
+    ensures { result ≡ next_state (table_of table.now) (event_of step) (row_in d row.now) }
 {
     let q = row[places::state_at(d)];
     match step {
@@ -102,8 +102,8 @@ pub fn next_state(row: &[u64], table: &[u8], step: Step, d: usize) -> u64
 
 // Is state s in neither set of level d?
 pub fn is_neither(row: &[u64], d: usize, s: u64) -> bool
-    requires { (length row.now ≤ rowLength 40) × (rowLength d ≤ length row.now) × (s < 64) }
-    ensures { result ≡ neither (levelIn row.now d).selecting (levelIn row.now d).rejecting s }
+    requires { (length row.now ≤ row_length 40) × (row_length d ≤ length row.now) × (s < 64) }
+    ensures { result ≡ neither (level_in row.now d).selecting (level_in row.now d).rejecting s }
 {
     !sets::holds(row[places::selecting_at(d)], s) && !sets::holds(row[places::rejecting_at(d)], s)
 }
@@ -122,7 +122,7 @@ fn is_neither_down(row: &[u64], table: &[u8], accs: &[u64; 64], d: usize, s: u64
     requires sound { Sound table.now }
     requires row_in { RowIn (table_of table.now).states d row.now }
     requires s_bound { s < (table_of table.now).states }
-    ensures { result ≡ neither (downOf (table_of table.now) accs.now (levelIn row.now d).state (levelIn row.now d).selecting) (downOf (table_of table.now) accs.now (levelIn row.now d).state (levelIn row.now d).rejecting) s }
+    ensures { result ≡ neither (down_of (table_of table.now) accs.now (level_in row.now d).state (level_in row.now d).selecting) (down_of (table_of table.now) accs.now (level_in row.now d).state (level_in row.now d).rejecting) s }
 {
     let q = row[places::state_at(d)];
     let acc = acc_of(accs, s);
@@ -134,9 +134,9 @@ fn is_neither_down(row: &[u64], table: &[u8], accs: &[u64; 64], d: usize, s: u64
 pub fn stays(row: &[u64], table: &[u8], accs: &[u64; 64], step: Step, d: usize, s: u64) -> bool
     requires sound { Sound table.now }
     requires row_in { RowIn (table_of table.now).states d row.now }
-    requires can { Can (table_of table.now) (length row.now) d (eventOf step) }
+    requires can { Can (table_of table.now) (length row.now) d (event_of step) }
     requires s_bound { s < (table_of table.now).states }
-    ensures { result ≡ not (isDecided (in_row s (stepRow (table_of table.now) accs.now (eventOf step) (rowIn d row.now)))) }
+    ensures { result ≡ not (is_decided (in_row s (step_row (table_of table.now) accs.now (event_of step) (row_in d row.now)))) }
 {
     match step {
         Step::Open(_) => is_neither_down(row, table, accs, d, s),

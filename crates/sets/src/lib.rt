@@ -5,7 +5,7 @@
 // there.
 ghost use Rattle.std.specs.Prelude.{◌≡◌, ◌<◌, ◌≤◌};
 ghost use Rattle.meaning.specs.Table.{table_of};
-ghost use Rattle.meaning.specs.Masks.{safeOf, intoOf, downOf, inDown, endsOf};
+ghost use Rattle.meaning.specs.Masks.{safe_of, into_of, down_of, in_down, ends_of};
 ghost use Rattle.bodies.specs.Sound.{Sound};
 
 pub use closing::{accs, trees};
@@ -15,7 +15,7 @@ pub use masks::holds;
 // safe(x): the q below n whose acc(q) lies in x.
 pub fn safe(n: u64, accs: &[u64; 64], x: u64) -> u64
     requires { n ≤ 64 }
-    ensures { result ≡ safeOf n accs.now x }
+    ensures { result ≡ safe_of n accs.now x }
 {
     let mut y = 0;
     let mut q = 0;
@@ -33,7 +33,7 @@ pub fn safe(n: u64, accs: &[u64; 64], x: u64) -> u64
 fn into(table: &[u8], q: u64, x: u64) -> u64
     requires sound { Sound table.now }
     requires q_bound { q < (table_of table.now).states }
-    ensures { result ≡ intoOf (table_of table.now) q x }
+    ensures { result ≡ into_of (table_of table.now) q x }
 {
     let n = bodies::states(table);
     let mut y = 0;
@@ -51,7 +51,7 @@ fn into(table: &[u8], q: u64, x: u64) -> u64
 pub fn down(table: &[u8], accs: &[u64; 64], q: u64, x: u64) -> u64
     requires sound { Sound table.now }
     requires q_bound { q < (table_of table.now).states }
-    ensures { result ≡ downOf (table_of table.now) accs.now q x }
+    ensures { result ≡ down_of (table_of table.now) accs.now q x }
 {
     safe(bodies::states(table), accs, into(table, q, x))
 }
@@ -60,7 +60,7 @@ pub fn down(table: &[u8], accs: &[u64; 64], q: u64, x: u64) -> u64
 pub fn in_down(table: &[u8], acc: u64, q: u64, x: u64) -> bool
     requires sound { Sound table.now }
     requires q_bound { q < (table_of table.now).states }
-    ensures { result ≡ inDown (table_of table.now) acc q x }
+    ensures { result ≡ in_down (table_of table.now) acc q x }
 {
     let n = bodies::states(table);
     let mut p = 0;
@@ -81,7 +81,7 @@ pub fn in_down(table: &[u8], acc: u64, q: u64, x: u64) -> bool
 // The final states, or the others.
 pub fn ends(table: &[u8], wanted: bool) -> u64
     requires { Sound table.now }
-    ensures { result ≡ endsOf (table_of table.now) wanted }
+    ensures { result ≡ ends_of (table_of table.now) wanted }
 {
     let n = bodies::states(table);
     let mut y = 0;

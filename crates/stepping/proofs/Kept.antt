@@ -10,112 +10,112 @@ use denote.Enum.Declared.{tag_of}
 use Rattle.rows.specs.contracts.Step.{the_type}
 use Rattle.meaning.specs.Table.{Table, WellFormed}
 use Rattle.meaning.specs.Streams.{Event, Open, Point, Close}
-use Rattle.meaning.specs.Rows.{Level, Row, closeLevels, isSelecting, isRejecting}
-use Rattle.places.specs.Places.{rowLength}
+use Rattle.meaning.specs.Rows.{Level, Row, close_levels, is_selecting, is_rejecting}
+use Rattle.places.specs.Places.{row_length}
 use Rattle.places.specs.Memory.{Held, each}
 use Rattle.places.proofs.Rows.{each_append}
 use Rattle.places.proofs.Good.{Below, Good, AllGood}
 use Rattle.places.proofs.Good as good
-use Rattle.rows.specs.Steps.{eventOf, Can, stepRow, onRow, depthAfter, isDecided}
-use Rattle.reports.specs.Reports.{selectedWord, failedWord, reportOf, reportsOf, leftOver, left_of}
-use Rattle.reports.proofs.Puts.{report-few}
+use Rattle.rows.specs.Steps.{event_of, Can, step_row, on_row, depth_after, is_decided}
+use Rattle.reports.specs.Reports.{selected_word, failed_word, report_of, reports_of, left_over, left_of}
+use Rattle.reports.proofs.Puts.{report_few}
 use Rattle.rows.specs.declared.Step.{Step}
 use Rattle.rows.specs.declared.Step.TheVariants as step
-use Rattle.stepping.specs.Stepping.{Counted, Moves, newOf, born}
+use Rattle.stepping.specs.Stepping.{Counted, Moves, new_of, born}
 
 module _ (t : Table) (wf : WellFormed t) where
-  close-good : (p position d : ℕ) (l : Level) (ls : List Level) → length ls ≡ d → 0 < d → l.state < t.states → Below t.states ls
-      → Good t.states (d - 1) (record { position = position; row = closeLevels t l ls })
-  close-good p position d l [] e h s b = absurd (omega arith)
-  close-good p position d l (q ∷ ls) e h s (good.over r b) =
-      record { levels = omega (arith, e); newest = wf.apply-in q.state l.state r s; below = b }
+  close_good : (p position d : ℕ) (l : Level) (ls : List Level) → length ls ≡ d → 0 < d → l.state < t.states → Below t.states ls
+      → Good t.states (d - 1) (record { position = position; row = close_levels t l ls })
+  close_good p position d l [] e h s b = absurd (omega arith)
+  close_good p position d l (q ∷ ls) e h s (good.over r b) =
+      record { levels = omega (arith, e); newest = wf.apply_in q.state l.state r s; below = b }
 
-  pub step-good : (accs : List ℕ) (e : Event) (w d : ℕ) (h : Held) → Can t w d e → Good t.states d h → Good t.states (depthAfter e d) (onRow (stepRow t accs e) h)
-  step-good accs (Open a) w d h can g =
-      record { levels = omega (arith, g.levels); newest = wf.opening-in a can.0; below = good.over g.newest g.below }
-  step-good accs (Point a) w d h can g = record { levels = g.levels; newest = wf.point-in h.row.newest.state a g.newest can; below = g.below }
-  step-good accs Close w d h can g = close-good 0 h.position d h.row.newest h.row.below g.levels can g.newest g.below
+  pub step_good : (accs : List ℕ) (e : Event) (w d : ℕ) (h : Held) → Can t w d e → Good t.states d h → Good t.states (depth_after e d) (on_row (step_row t accs e) h)
+  step_good accs (Open a) w d h can g =
+      record { levels = omega (arith, g.levels); newest = wf.opening_in a can.0; below = good.over g.newest g.below }
+  step_good accs (Point a) w d h can g = record { levels = g.levels; newest = wf.point_in h.row.newest.state a g.newest can; below = g.below }
+  step_good accs Close w d h can g = close_good 0 h.position d h.row.newest h.row.below g.levels can g.newest g.below
 
-  pub all-step : (accs : List ℕ) (e : Event) (w d : ℕ) → Can t w d e → {hs : List Held} → AllGood t.states d hs → AllGood t.states (depthAfter e d) (map (onRow (stepRow t accs e)) hs)
-  all-step accs e w d can good.none = good.none
-  all-step accs e w d can (good.over {h} g a) = good.over (step-good accs e w d h can g) (all-step accs e w d can a)
+  pub all_step : (accs : List ℕ) (e : Event) (w d : ℕ) → Can t w d e → {hs : List Held} → AllGood t.states d hs → AllGood t.states (depth_after e d) (map (on_row (step_row t accs e)) hs)
+  all_step accs e w d can good.none = good.none
+  all_step accs e w d can (good.over {h} g a) = good.over (step_good accs e w d h can g) (all_step accs e w d can a)
 
-  pub new-good : (d position : ℕ) (run : Row) → Good t.states d (record { position = 0; row = run }) → Good t.states d (newOf t position run)
-  new-good d position run g = record { levels = g.levels; newest = wf.mark-in run.newest.state g.newest; below = g.below }
+  pub new_good : (d position : ℕ) (run : Row) → Good t.states d (record { position = 0; row = run }) → Good t.states d (new_of t position run)
+  new_good d position run g = record { levels = g.levels; newest = wf.mark_in run.newest.state g.newest; below = g.below }
 
-pub left-append : (xs ys : List Held) → length (left_of (xs ++ ys)) ≡ length (left_of xs) + length (left_of ys)
-left-append xs ys = ap length (each_append leftOver xs ys) ∙ length-append (left_of xs) (left_of ys)
+pub left_append : (xs ys : List Held) → length (left_of (xs ++ ys)) ≡ length (left_of xs) + length (left_of ys)
+left_append xs ys = ap length (each_append left_over xs ys) ∙ length-append (left_of xs) (left_of ys)
 
 -- One row more.
 pub one_more : {A : Type 0} (f : Held → List A) (xs : List Held) (h : Held) → each f (xs ++ (h ∷ [])) ≡ each f xs ++ f h
 one_more f xs h = each_append f xs (h ∷ []) ∙ ap (λ ys. each f xs ++ ys) (append-nil (f h))
 
-pub left-new : (xs : List Held) (h : Held) → length (left_of (xs ++ (h ∷ []))) ≡ length (left_of xs) + length (leftOver h)
-left-new xs h = ap length (one_more leftOver xs h) ∙ length-append (left_of xs) (leftOver h)
+pub left_new : (xs : List Held) (h : Held) → length (left_of (xs ++ (h ∷ []))) ≡ length (left_of xs) + length (left_over h)
+left_new xs h = ap length (one_more left_over xs h) ∙ length-append (left_of xs) (left_over h)
 
-over-few : (h : Held) → length (leftOver h) ≤ 1
-over-few h = go (isDecided h.row)
+over_few : (h : Held) → length (left_over h) ≤ 1
+over_few h = go (is_decided h.row)
   where
     go : (b : Bool) → length (cond b [] (h ∷ [])) ≤ 1
     go true = omega arith
     go false = omega arith
 
-pub left-few : (hs : List Held) → length (left_of hs) ≤ length hs
-left-few [] = omega arith
-left-few (h ∷ hs) = omega (arith, length-append (leftOver h) (left_of hs), over-few h, left-few hs)
+pub left_few : (hs : List Held) → length (left_of hs) ≤ length hs
+left_few [] = omega arith
+left_few (h ∷ hs) = omega (arith, length-append (left_over h) (left_of hs), over_few h, left_few hs)
 
-pub left-good : {n d : ℕ} {hs : List Held} → AllGood n d hs → AllGood n d (left_of hs)
-left-good good.none = good.none
-left-good {n} {d} (good.over {h} {hs} g a) = go (isDecided h.row) (left-good a)
+pub left_good : {n d : ℕ} {hs : List Held} → AllGood n d hs → AllGood n d (left_of hs)
+left_good good.none = good.none
+left_good {n} {d} (good.over {h} {hs} g a) = go (is_decided h.row) (left_good a)
   where
     go : (b : Bool) → AllGood n d (left_of hs) → AllGood n d (cond b [] (h ∷ []) ++ left_of hs)
     go true rest = rest
     go false rest = good.over g rest
 
-pub map-length : (f : Held → Held) (hs : List Held) → length (map f hs) ≡ length hs
-map-length f [] = refl
-map-length f (h ∷ hs) = ap suc (map-length f hs)
+pub map_length : (f : Held → Held) (hs : List Held) → length (map f hs) ≡ length hs
+map_length f [] = refl
+map_length f (h ∷ hs) = ap suc (map_length f hs)
 
 -- An event that can be taken leads to a depth of at most 40.
-pub moves_of : (t : Table) (depth d : ℕ) (e : Event) → depth ≤ 40 → Can t (rowLength depth) d e → Moves e d
+pub moves_of : (t : Table) (depth d : ℕ) (e : Event) → depth ≤ 40 → Can t (row_length depth) d e → Moves e d
 moves_of t depth d (Open a) h can = omega (arith, can.1)
 moves_of t depth d (Point a) h can = tt
 moves_of t depth d Close h can = can
 
 -- A close brings no new row, any other step one.
-pub none-born : (t : Table) (x : Step) (p : ℕ) (run : Row) (hs : List Held) → x ≡ step.Close → hs ++ born t (eventOf x) p run ≡ hs
-none-born t x p run hs e = ap (λ y. hs ++ born t (eventOf y) p run) e ∙ append-nil hs
+pub none_born : (t : Table) (x : Step) (p : ℕ) (run : Row) (hs : List Held) → x ≡ step.Close → hs ++ born t (event_of x) p run ≡ hs
+none_born t x p run hs e = ap (λ y. hs ++ born t (event_of y) p run) e ∙ append-nil hs
 
 -- The match of a step that left out the close.
 abbrev pub Other : Step → Type 0
 Other x = OneOf (0 ∷ 1 ∷ []) (tag_of the_type x)
 
-pub one-born : (t : Table) (x : Step) (p : ℕ) (run : Row) → Other x → born t (eventOf x) p run ≡ newOf t (p + 1) run ∷ []
-one-born t (step.Open a) p run other = refl
-one-born t (step.Point a) p run other = refl
-one-born t step.Close p run other = absurd (miss (0 ∷ 1 ∷ []) 2 tt other)
+pub one_born : (t : Table) (x : Step) (p : ℕ) (run : Row) → Other x → born t (event_of x) p run ≡ new_of t (p + 1) run ∷ []
+one_born t (step.Open a) p run other = refl
+one_born t (step.Point a) p run other = refl
+one_born t step.Close p run other = absurd (miss (0 ∷ 1 ∷ []) 2 tt other)
 
 -- A new position can be numbered.
-pub counted_of : (x : Step) (p : ℕ) → Other x → Counted (eventOf x) p → p < 2147483647
+pub counted_of : (x : Step) (p : ℕ) → Other x → Counted (event_of x) p → p < 2147483647
 counted_of (step.Open a) p other h = h
 counted_of (step.Point a) p other h = h
 counted_of step.Close p other h = absurd (miss (0 ∷ 1 ∷ []) 2 tt other)
 
-pub reports-few : (hs : List Held) → length (reportsOf hs) ≤ length hs
-reports-few [] = omega arith
-reports-few (h ∷ hs) = omega (arith, length-append (reportOf h) (reportsOf hs), report-few h, reports-few hs)
+pub reports_few : (hs : List Held) → length (reports_of hs) ≤ length hs
+reports_few [] = omega arith
+reports_few (h ∷ hs) = omega (arith, length-append (report_of h) (reports_of hs), report_few h, reports_few hs)
 
 -- A row that is not reported is left; where none is reported, all are.
-not-reported : (h : Held) → length (reportOf h) ≡ 0 → leftOver h ≡ h ∷ []
-not-reported h = go (isSelecting h.row) (isRejecting h.row)
+not_reported : (h : Held) → length (report_of h) ≡ 0 → left_over h ≡ h ∷ []
+not_reported h = go (is_selecting h.row) (is_rejecting h.row)
   where
-    go : (b c : Bool) → length (cond b (selectedWord h.position ∷ []) (cond c (failedWord h.position ∷ []) [])) ≡ 0 → cond (b || c) [] (h ∷ []) ≡ h ∷ []
+    go : (b c : Bool) → length (cond b (selected_word h.position ∷ []) (cond c (failed_word h.position ∷ []) [])) ≡ 0 → cond (b || c) [] (h ∷ []) ≡ h ∷ []
     go true c e = absurd (omega arith)
     go false true e = absurd (omega arith)
     go false false e = refl
 
-pub none-reported : (hs : List Held) → length (reportsOf hs) ≡ 0 → left_of hs ≡ hs
-none-reported [] e = refl
-none-reported (h ∷ hs) e =
-    let k = length-append (reportOf h) (reportsOf hs) in
-    ap₂ (λ xs ys. xs ++ ys) (not-reported h (omega arith)) (none-reported hs (omega arith))
+pub none_reported : (hs : List Held) → length (reports_of hs) ≡ 0 → left_of hs ≡ hs
+none_reported [] e = refl
+none_reported (h ∷ hs) e =
+    let k = length-append (report_of h) (reports_of hs) in
+    ap₂ (λ xs ys. xs ++ ys) (not_reported h (omega arith)) (none_reported hs (omega arith))

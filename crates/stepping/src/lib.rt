@@ -4,14 +4,14 @@
 // which asks for their number only. Each leaves the words of the rows that the rules name.
 ghost use Rattle.std.specs.Prelude.{◌≡◌, ◌++◌, ℕ, ◌+◌, ◌*◌, ◌<◌, ◌≤◌, ltb, length, get_or, drop, replicate};
 ghost use Rattle.meaning.specs.Table.{table_of};
-ghost use Rattle.meaning.specs.Masks.{accsOf};
+ghost use Rattle.meaning.specs.Masks.{accs_of};
 ghost use Rattle.bodies.specs.Sound.{Sound};
-ghost use Rattle.places.specs.Places.{positionAt, rowLength, row_of, rowsLength, padded};
-ghost use Rattle.places.specs.Memory.{rowIn, heldsIn, memoryIn, allWords, rowsWords, RowIn, RowsIn};
-ghost use Rattle.rows.specs.Steps.{eventOf, Can, depthAfter};
-ghost use Rattle.reports.specs.Reports.{reportOf, reportsOf, leftOver, left_of, endReports};
-ghost use Rattle.meaning.specs.Lent.{put_at, onFront};
-ghost use Rattle.stepping.specs.Stepping.{Stands, Counted, Moves, newOf, stepMemory, leftMemory, countsOf, startMemory};
+ghost use Rattle.places.specs.Places.{position_at, row_length, row_of, rows_length, padded};
+ghost use Rattle.places.specs.Memory.{row_in, helds_in, memory_in, all_words, rows_words, RowIn, RowsIn};
+ghost use Rattle.rows.specs.Steps.{event_of, Can, depth_after};
+ghost use Rattle.reports.specs.Reports.{report_of, reports_of, left_over, left_of, end_reports};
+ghost use Rattle.meaning.specs.Lent.{put_at, on_front};
+ghost use Rattle.stepping.specs.Stepping.{Stands, Counted, Moves, new_of, step_memory, left_memory, counts_of, start_memory};
 
 use rows::Step;
 
@@ -25,9 +25,9 @@ pub struct Counts {
 // The memory of a watch that has read nothing. Old contents do not matter.
 pub fn start_memory(work: &mut [u64], table: &[u8], accs: &[u64; 64], rows: usize, depth: usize)
     requires sound { Sound table.now }
-    requires rows_bound { (rows ≤ 64) × (depth ≤ 40) × (length work.old ≡ rowsLength rows depth) }
-    requires accs_value { accs.now ≡ accsOf (table_of table.now) }
-    ensures { work.new ≡ rowsWords rows depth (startMemory (table_of table.now)) }
+    requires rows_bound { (rows ≤ 64) × (depth ≤ 40) × (length work.old ≡ rows_length rows depth) }
+    requires accs_value { accs.now ≡ accs_of (table_of table.now) }
+    ensures { work.new ≡ rows_words rows depth (start_memory (table_of table.now)) }
 {
     let n = bodies::states(table);
     words::clear(work);
@@ -53,8 +53,8 @@ pub fn is_crowded(
 ) -> bool
     requires sound { Sound table.now }
     requires stands { Stands (table_of table.now).states rows depth d alive work.now }
-    requires can { Can (table_of table.now) (rowLength depth) d (eventOf step) }
-    ensures { (p : ℕ) → result ≡ ltb rows (length (left_of (stepMemory (table_of table.now) accs.now (eventOf step) p (memoryIn depth d alive work.now)).alive)) }
+    requires can { Can (table_of table.now) (row_length depth) d (event_of step) }
+    ensures { (p : ℕ) → result ≡ ltb rows (length (left_of (step_memory (table_of table.now) accs.now (event_of step) p (memory_in depth d alive work.now)).alive)) }
 {
     if alive < rows {
         return false;
@@ -71,8 +71,8 @@ pub fn is_crowded(
 
 // The newest level once the event is taken.
 fn depth_after(step: Step, d: usize) -> usize
-    requires { Moves (eventOf step) d }
-    ensures { result ≡ depthAfter (eventOf step) d }
+    requires { Moves (event_of step) d }
+    ensures { result ≡ depth_after (event_of step) d }
 {
     match step {
         Step::Open(_) => d + 1,
@@ -95,11 +95,11 @@ fn add_position(
 ) -> Counts
     requires sound { Sound table.now }
     requires row_in { RowIn (table_of table.now).states d (row_of w 0 work.old) }
-    requires w_bound { (w ≤ rowLength 40) × (position ≤ 2147483647) × (left + length (leftOver (newOf (table_of table.now) position (rowIn d (row_of w 0 work.old)))) ≤ 64) × (count < length reports.old) }
-    requires w_in_bounds { (left + 1 + length (leftOver (newOf (table_of table.now) position (rowIn d (row_of w 0 work.old))))) * w ≤ length work.old }
-    ensures value { result ≡ record { alive = left + length (leftOver (newOf (table_of table.now) position (rowIn d (row_of w 0 work.old)))); reports = count + length (reportOf (newOf (table_of table.now) position (rowIn d (row_of w 0 work.old)))) } }
-    ensures work_after { work.new ≡ put_at ((left + 1) * w) (allWords w (leftOver (newOf (table_of table.now) position (rowIn d (row_of w 0 work.old))))) work.old }
-    ensures reports_after { reports.new ≡ put_at count (reportOf (newOf (table_of table.now) position (rowIn d (row_of w 0 work.old)))) reports.old }
+    requires w_bound { (w ≤ row_length 40) × (position ≤ 2147483647) × (left + length (left_over (new_of (table_of table.now) position (row_in d (row_of w 0 work.old)))) ≤ 64) × (count < length reports.old) }
+    requires w_in_bounds { (left + 1 + length (left_over (new_of (table_of table.now) position (row_in d (row_of w 0 work.old))))) * w ≤ length work.old }
+    ensures value { result ≡ record { alive = left + length (left_over (new_of (table_of table.now) position (row_in d (row_of w 0 work.old)))); reports = count + length (report_of (new_of (table_of table.now) position (row_in d (row_of w 0 work.old)))) } }
+    ensures work_after { work.new ≡ put_at ((left + 1) * w) (all_words w (left_over (new_of (table_of table.now) position (row_in d (row_of w 0 work.old))))) work.old }
+    ensures reports_after { reports.new ≡ put_at count (report_of (new_of (table_of table.now) position (row_in d (row_of w 0 work.old)))) reports.old }
 {
     let s = bodies::mark(table, work[places::state_at(d)]);
     let after = reports::report_state(&work[..w], reports, d, s, position, count);
@@ -121,9 +121,9 @@ fn add_position(
 // the rows were reported: where none was, all are in doubt and stand where they are.
 fn close_rows(words: &mut [u64], w: usize, d: usize, n: usize, count: usize) -> usize
     requires rows_in { RowsIn 64 w d n words.old }
-    requires n_bound { (n ≤ 64) × (count ≡ length (reportsOf (heldsIn w d n words.old))) }
-    ensures value { result ≡ length (left_of (heldsIn w d n words.old)) }
-    ensures words_after { words.new ≡ padded (n * w) (allWords w (left_of (heldsIn w d n words.old))) ++ drop (n * w) words.old }
+    requires n_bound { (n ≤ 64) × (count ≡ length (reports_of (helds_in w d n words.old))) }
+    ensures value { result ≡ length (left_of (helds_in w d n words.old)) }
+    ensures words_after { words.new ≡ padded (n * w) (all_words w (left_of (helds_in w d n words.old))) ++ drop (n * w) words.old }
 {
     if count == 0 {
         n
@@ -147,12 +147,12 @@ pub fn take_step(
 ) -> Counts
     requires sound { Sound table.now }
     requires stands { Stands (table_of table.now).states rows depth d alive work.old }
-    requires can { Can (table_of table.now) (rowLength depth) d (eventOf step) × Counted (eventOf step) positions }
+    requires can { Can (table_of table.now) (row_length depth) d (event_of step) × Counted (event_of step) positions }
     requires rows_in_bounds { rows < length reports.old }
-    requires work_len_bound { length (left_of (stepMemory (table_of table.now) accs.now (eventOf step) positions (memoryIn depth d alive work.old)).alive) ≤ rows }
-    ensures value { result ≡ countsOf (stepMemory (table_of table.now) accs.now (eventOf step) positions (memoryIn depth d alive work.old)) }
-    ensures work_after { work.new ≡ rowsWords rows depth (leftMemory (stepMemory (table_of table.now) accs.now (eventOf step) positions (memoryIn depth d alive work.old))) }
-    ensures reports_after { reports.new ≡ onFront (reportsOf (stepMemory (table_of table.now) accs.now (eventOf step) positions (memoryIn depth d alive work.old)).alive) reports.old }
+    requires work_len_bound { length (left_of (step_memory (table_of table.now) accs.now (event_of step) positions (memory_in depth d alive work.old)).alive) ≤ rows }
+    ensures value { result ≡ counts_of (step_memory (table_of table.now) accs.now (event_of step) positions (memory_in depth d alive work.old)) }
+    ensures work_after { work.new ≡ rows_words rows depth (left_memory (step_memory (table_of table.now) accs.now (event_of step) positions (memory_in depth d alive work.old))) }
+    ensures reports_after { reports.new ≡ on_front (reports_of (step_memory (table_of table.now) accs.now (event_of step) positions (memory_in depth d alive work.old)).alive) reports.old }
 {
     let w = places::row_length(depth);
     memory::step_rows(work, table, accs, step, w, d, alive + 1);
@@ -171,11 +171,11 @@ pub fn take_step(
 // The end: every alive row is reported, and every word is 0.
 pub fn take_end(work: &mut [u64], reports: &mut [u32], table: &[u8], depth: usize, alive: usize)
     requires sound { Sound table.now }
-    requires depth_bound { (depth ≤ 40) × (alive ≤ 64) × (alive < length reports.old) × (rowLength depth ≤ length work.old) }
-    requires rows_in { RowsIn (table_of table.now).states (rowLength depth) 0 alive (drop (rowLength depth) work.old) }
-    requires by_index { (r : ℕ) → r < alive → get_or (row_of (rowLength depth) r (drop (rowLength depth) work.old)) positionAt 0 ≤ 2147483647 }
+    requires depth_bound { (depth ≤ 40) × (alive ≤ 64) × (alive < length reports.old) × (row_length depth ≤ length work.old) }
+    requires rows_in { RowsIn (table_of table.now).states (row_length depth) 0 alive (drop (row_length depth) work.old) }
+    requires by_index { (r : ℕ) → r < alive → get_or (row_of (row_length depth) r (drop (row_length depth) work.old)) position_at 0 ≤ 2147483647 }
     ensures work_after { work.new ≡ replicate (length work.old) 0 }
-    ensures reports_after { reports.new ≡ onFront (endReports (table_of table.now) (memoryIn depth 0 alive work.old).alive) reports.old }
+    ensures reports_after { reports.new ≡ on_front (end_reports (table_of table.now) (memory_in depth 0 alive work.old).alive) reports.old }
 {
     let w = places::row_length(depth);
     reports::report_ends(&work[w..], reports, table, w, alive);

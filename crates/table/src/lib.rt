@@ -3,10 +3,10 @@
 // The file's bytes are themselves the table, lent to every call. `read` takes any bytes. The steps ask for a file that
 // `read` takes (`Sound`), and for states and labels below its n and k; each answers what `table_of` the bytes says.
 ghost use Rattle.std.specs.Prelude.{◌≡◌, ◌+◌, ◌<◌, ◌≤◌, length};
-ghost use Rattle.meaning.specs.Table.{bodyAt};
-ghost use Rattle.table.specs.File.{Sizes, headerRight, twoBytes, fieldRight, entryRight, wrongField, wrongEntry};
-ghost use Rattle.table.specs.File.{firstAbove, wrongByte, wrongBody, reading_of};
-ghost use Rattle.table.specs.File.{fieldNumber, refusalNumber, refusalPart, refusalInside};
+ghost use Rattle.meaning.specs.Table.{body_at};
+ghost use Rattle.table.specs.File.{Sizes, header_right, two_bytes, field_right, entry_right, wrong_field, wrong_entry};
+ghost use Rattle.table.specs.File.{first_above, wrong_byte, wrong_body, reading_of};
+ghost use Rattle.table.specs.File.{field_number, refusal_number, refusal_part, refusal_inside};
 
 pub use bodies::{apply, is_final, labels, mark, opening, point, start, states};
 
@@ -20,7 +20,7 @@ pub enum Field {
 
 impl Field {
     pub fn number(self) -> u64
-        ensures { result ≡ fieldNumber self }
+        ensures { result ≡ field_number self }
     {
         match self {
             Field::Kind => 0,
@@ -48,7 +48,7 @@ pub enum Refusal {
 impl Refusal {
     // 01's number.
     pub fn number(self) -> u64
-        ensures { result ≡ refusalNumber self }
+        ensures { result ≡ refusal_number self }
     {
         match self {
             Refusal::Short => 1,
@@ -61,7 +61,7 @@ impl Refusal {
 
     // The entry or the body that it names; else 0.
     pub fn part(self) -> u64
-        ensures { result ≡ refusalPart self }
+        ensures { result ≡ refusal_part self }
     {
         match self {
             Refusal::Short => 0,
@@ -74,7 +74,7 @@ impl Refusal {
 
     // The field, by its number, or the byte that it names in that part; else 0.
     pub fn inside(self) -> u64
-        ensures { result ≡ refusalInside self }
+        ensures { result ≡ refusal_inside self }
     {
         match self {
             Refusal::Short => 0,
@@ -96,7 +96,7 @@ pub enum Reading {
 // Is line 2 of the refusals passed? The file has at least the 29 bytes before its bodies.
 fn header_right(table: &[u8]) -> bool
     requires { 29 ≤ length table.now }
-    ensures { result ≡ headerRight table.now }
+    ensures { result ≡ header_right table.now }
 {
     let n = bodies::byte(table, 0);
     let k = bodies::byte(table, 1);
@@ -115,7 +115,7 @@ fn header_right(table: &[u8]) -> bool
 // The two bytes from a place on, the low one first.
 fn two_bytes(table: &[u8], at: u64) -> u64
     requires { at + 1 < length table.now }
-    ensures { result ≡ twoBytes table.now at }
+    ensures { result ≡ two_bytes table.now at }
 {
     bodies::byte(table, at) + 256 * bodies::byte(table, at + 1)
 }
@@ -125,7 +125,7 @@ fn field_right(table: &[u8], n: u64, k: u64, i: u64, field: Field) -> bool
     requires in_bounds { 29 ≤ length table.now }
     requires sizes { Sizes table.now n k }
     requires i_bound { i < 5 }
-    ensures { result ≡ fieldRight table.now i field }
+    ensures { result ≡ field_right table.now i field }
 {
     let at = 4 + 5 * i;
     match field {
@@ -140,7 +140,7 @@ fn wrong_field(table: &[u8], n: u64, k: u64, entry: u64) -> Field
     requires in_bounds { 29 ≤ length table.now }
     requires sizes { Sizes table.now n k }
     requires bound { entry < 5 }
-    ensures { result ≡ wrongField table.now entry }
+    ensures { result ≡ wrong_field table.now entry }
 {
     if !field_right(table, n, k, entry, Field::Kind) {
         return Field::Kind;
@@ -156,7 +156,7 @@ fn entry_right(table: &[u8], n: u64, k: u64, i: u64) -> bool
     requires in_bounds { 29 ≤ length table.now }
     requires sizes { Sizes table.now n k }
     requires i_bound { i < 5 }
-    ensures { result ≡ entryRight table.now i }
+    ensures { result ≡ entry_right table.now i }
 {
     let field = wrong_field(table, n, k, i);
     field_right(table, n, k, i, field)
@@ -166,7 +166,7 @@ fn entry_right(table: &[u8], n: u64, k: u64, i: u64) -> bool
 fn wrong_entry(table: &[u8], n: u64, k: u64) -> u64
     requires in_bounds { 29 ≤ length table.now }
     requires sizes { Sizes table.now n k }
-    ensures { result ≡ wrongEntry table.now }
+    ensures { result ≡ wrong_entry table.now }
 {
     let mut i = 0;
     while i < 5 {
@@ -181,7 +181,7 @@ fn wrong_entry(table: &[u8], n: u64, k: u64) -> u64
 // The first of `count` bytes from a place on that is not below a limit, counted from there; `count` where all are.
 fn first_above(table: &[u8], from: u64, count: u64, limit: u64) -> u64
     requires { from + count ≤ length table.now }
-    ensures { result ≡ firstAbove table.now from count limit }
+    ensures { result ≡ first_above table.now from count limit }
 {
     let mut j = 0;
     while j < count {
@@ -197,9 +197,9 @@ fn first_above(table: &[u8], from: u64, count: u64, limit: u64) -> u64
 // The first byte of body i, counted from the body's start, that it may not hold; the body's length where it may hold all.
 fn wrong_byte(table: &[u8], n: u64, k: u64, i: u64) -> u64
     requires sizes { Sizes table.now n k }
-    requires table_len { length table.now ≡ bodyAt n k 5 }
+    requires table_len { length table.now ≡ body_at n k 5 }
     requires i_bound { i < 5 }
-    ensures { result ≡ wrongByte table.now i }
+    ensures { result ≡ wrong_byte table.now i }
 {
     let limit = if i < 4 { n } else { 2 };
     first_above(
@@ -213,8 +213,8 @@ fn wrong_byte(table: &[u8], n: u64, k: u64, i: u64) -> u64
 // The first body, from 0, that holds a byte that it may not; 5 where none does.
 fn wrong_body(table: &[u8], n: u64, k: u64) -> u64
     requires sizes { Sizes table.now n k }
-    requires table_len { length table.now ≡ bodyAt n k 5 }
-    ensures { result ≡ wrongBody table.now }
+    requires table_len { length table.now ≡ body_at n k 5 }
+    ensures { result ≡ wrong_body table.now }
 {
     let mut i = 0;
     while i < 5 {

@@ -14,90 +14,90 @@ use Rattle.tags.specs.declared.reader.Outcome.{Outcome}
 use Rattle.tags.specs.declared.reader.Outcome.TheVariants as outcome
 use Rattle.tags.specs.declared.reader.Stepped.{Stepped}
 use Rattle.tags.specs.declared.reader.Fed as read
-use Rattle.tags.specs.Cursors.{step_of, cursorStep, givenBy, stopBy, feedIn, fedOf, feedOut}
+use Rattle.tags.specs.Cursors.{step_of, cursor_step, given_by, stop_by, feed_in, fed_of, feed_out}
 use Rattle.meaning.specs.Lent.{put_at}
-use Rattle.meaning.proofs.Lent.{put-none}
-use Rattle.tags.proofs.Pieces.{Gives, Counts, Holds, gives_all, gives-stop, gives-short, gives-on, holds-out, holds_on}
+use Rattle.meaning.proofs.Lent.{put_none}
+use Rattle.tags.proofs.Pieces.{Gives, Counts, Holds, gives_all, gives_stop, gives_short, gives_on, holds_out, holds_on}
 
 -- A step as the loops know it.
-abbrev stepBy : Stepped → Step Cursor
-stepBy x = record { next = x.next; gives = givenBy x.outcome; stops = stopBy x.outcome }
+abbrev step_by : Stepped → Step Cursor
+step_by x = record { next = x.next; gives = given_by x.outcome; stops = stop_by x.outcome }
 
 module _ (names : List ℕ) (c : Cursor) (b : ℕ) {x : Stepped} (e : x ≡ step_of names c b) where
-  pub by-fault : {k : Fault} → x.outcome ≡ outcome.Fault k → (cursorStep names c b).stops ≡ At k
-  by-fault h = ap (λ (y : Stepped). stopBy y.outcome) (sym e) ∙ ap stopBy h
+  pub by_fault : {k : Fault} → x.outcome ≡ outcome.Fault k → (cursor_step names c b).stops ≡ At k
+  by_fault h = ap (λ (y : Stepped). stop_by y.outcome) (sym e) ∙ ap stop_by h
 
-  pub by-event : {v : ℕ} → x.outcome ≡ outcome.Event v → cursorStep names c b ≡ stepped x.next (v ∷ [])
-  by-event h = ap stepBy (sym e) ∙ ap (λ (o : Outcome). record { next = x.next; gives = givenBy o; stops = stopBy o }) h
+  pub by_event : {v : ℕ} → x.outcome ≡ outcome.Event v → cursor_step names c b ≡ stepped x.next (v ∷ [])
+  by_event h = ap step_by (sym e) ∙ ap (λ (o : Outcome). record { next = x.next; gives = given_by o; stops = stop_by o }) h
 
-  pub by-nothing : x.outcome ≡ outcome.Nothing → cursorStep names c b ≡ stepped x.next []
-  by-nothing h = ap stepBy (sym e) ∙ ap (λ (o : Outcome). record { next = x.next; gives = givenBy o; stops = stopBy o }) h
+  pub by_nothing : x.outcome ≡ outcome.Nothing → cursor_step names c b ≡ stepped x.next []
+  by_nothing h = ap step_by (sym e) ∙ ap (λ (o : Outcome). record { next = x.next; gives = given_by o; stops = stop_by o }) h
 
 module _ (names : List ℕ) (a : Cursor) (room : ℕ) (piece : List ℕ) {next : Cursor} {gives : List ℕ} (taken given : ℕ)
-    (g : Gives (cursorStep names) a room piece gives next taken given) where
+    (g : Gives (cursor_step names) a room piece gives next taken given) where
   -- What a piece comes to that stops here.
   abbrev pub Comes : Stop → Type 0
-  Comes stop = feedIn names a room piece ≡ record { gives = gives; taken = taken; state = record { inner = next; left = room - given }; stops = stop }
+  Comes stop = feed_in names a room piece ≡ record { gives = gives; taken = taken; state = record { inner = next; left = room - given }; stops = stop }
 
-  pub comes-all : length piece ≤ taken → Comes Not
-  comes-all l = gives_all (cursorStep names) a room piece taken given g l
+  pub comes_all : length piece ≤ taken → Comes Not
+  comes_all l = gives_all (cursor_step names) a room piece taken given g l
 
   -- The answer, where the piece came to this.
-  pub come-answer : (stop : Stop) → Comes stop → record { next = next; taken = taken; given = given; stop = stop } ≡ fedOf (feedIn names a room piece)
-  come-answer stop e = rw (e, g.count)
+  pub come_answer : (stop : Stop) → Comes stop → record { next = next; taken = taken; given = given; stop = stop } ≡ fed_of (feed_in names a room piece)
+  come_answer stop e = rw (e, g.count)
 
   module _ (l : taken < length piece) {x : Stepped} (e : x ≡ step_of names next (get_or piece taken 0)) where
-    pub comes-fault : {k : Fault} → x.outcome ≡ outcome.Fault k → Comes (At k)
-    comes-fault {k} h = gives-stop (cursorStep names) a room piece taken given g l k (by-fault names next (get_or piece taken 0) e h)
+    pub comes_fault : {k : Fault} → x.outcome ≡ outcome.Fault k → Comes (At k)
+    comes_fault {k} h = gives_stop (cursor_step names) a room piece taken given g l k (by_fault names next (get_or piece taken 0) e h)
 
-    pub comes-short : {v : ℕ} → x.outcome ≡ outcome.Event v → room ≤ given → Comes (At fault.Short)
-    comes-short h r =
-        gives-short (cursorStep names) a room piece taken given g l
-        (ap (λ (y : Step Cursor). y.stops) (by-event names next (get_or piece taken 0) e h))
-        (one-given (ap (λ (y : Step Cursor). y.gives) (by-event names next (get_or piece taken 0) e h)))
+    pub comes_short : {v : ℕ} → x.outcome ≡ outcome.Event v → room ≤ given → Comes (At fault.Short)
+    comes_short h r =
+        gives_short (cursor_step names) a room piece taken given g l
+        (ap (λ (y : Step Cursor). y.stops) (by_event names next (get_or piece taken 0) e h))
+        (one_given (ap (λ (y : Step Cursor). y.gives) (by_event names next (get_or piece taken 0) e h)))
       where
-        one-given : {v : ℕ} {more : List ℕ} → more ≡ v ∷ [] → room - given < length more
-        one-given p = rw p (omega arith)
+        one_given : {v : ℕ} {more : List ℕ} → more ≡ v ∷ [] → room - given < length more
+        one_given p = rw p (omega arith)
 
 -- The loop that only counts.
 module _ (names : List ℕ) (a : Cursor) (room : ℕ) (piece : List ℕ) {next : Cursor} (taken given : ℕ)
-    (g : Counts (cursorStep names) a room piece next taken given) where
-  pub counts-answer : (stop : Stop) → Comes names a room piece taken given g.so_far stop
-      → record { next = next; taken = taken; given = given; stop = stop } ≡ fedOf (feedIn names a room piece)
-  counts-answer stop e = come-answer names a room piece taken given g.so_far stop e
+    (g : Counts (cursor_step names) a room piece next taken given) where
+  pub counts_answer : (stop : Stop) → Comes names a room piece taken given g.so_far stop
+      → record { next = next; taken = taken; given = given; stop = stop } ≡ fed_of (feed_in names a room piece)
+  counts_answer stop e = come_answer names a room piece taken given g.so_far stop e
 
   module _ (l : taken < length piece) {x : Stepped} (e : x ≡ step_of names next (get_or piece taken 0)) where
-    pub counts-event : {v : ℕ} → x.outcome ≡ outcome.Event v → given < room → Counts (cursorStep names) a room piece x.next (taken + 1) (given + 1)
-    counts-event h r =
+    pub counts_event : {v : ℕ} → x.outcome ≡ outcome.Event v → given < room → Counts (cursor_step names) a room piece x.next (taken + 1) (given + 1)
+    counts_event h r =
         record {
           gives = _;
-          so_far = gives-on (cursorStep names) a room piece taken given g.so_far l 1 (by-event names next (get_or piece taken 0) e h) refl (omega arith);
+          so_far = gives_on (cursor_step names) a room piece taken given g.so_far l 1 (by_event names next (get_or piece taken 0) e h) refl (omega arith);
         }
 
-    pub counts-nothing : x.outcome ≡ outcome.Nothing → Counts (cursorStep names) a room piece x.next (taken + 1) given
-    counts-nothing h =
+    pub counts_nothing : x.outcome ≡ outcome.Nothing → Counts (cursor_step names) a room piece x.next (taken + 1) given
+    counts_nothing h =
         let z : given + 0 ≡ given = omega arith in
         record {
           gives = _;
-          so_far = rw z at (gives-on (cursorStep names) a room piece taken given g.so_far l 0 (by-nothing names next (get_or piece taken 0) e h) refl (omega arith));
+          so_far = rw z at (gives_on (cursor_step names) a room piece taken given g.so_far l 0 (by_nothing names next (get_or piece taken 0) e h) refl (omega arith));
         }
 
 -- The loop that writes.
 module _ (names : List ℕ) (a : Cursor) (piece out₀ : List ℕ) {out : List ℕ} {next : Cursor} (taken given : ℕ)
-    (w : Holds (cursorStep names) a piece out₀ out next taken given) where
-  pub holds-answer : (stop : Stop) → Comes names a (length out₀) piece taken given w.so_far stop
-      → (record { next = next; taken = taken; given = given; stop = stop } ≡ fedOf (feedIn names a (length out₀) piece)) × (out ≡ feedOut names a piece out₀)
-  holds-answer stop e = (
-    come-answer names a (length out₀) piece taken given w.so_far stop e,
-    holds-out (cursorStep names) a piece out₀ taken given w (feedIn names a (length out₀) piece) (ap (λ (f : Fed (Roomed Cursor)). f.gives) e),
+    (w : Holds (cursor_step names) a piece out₀ out next taken given) where
+  pub holds_answer : (stop : Stop) → Comes names a (length out₀) piece taken given w.so_far stop
+      → (record { next = next; taken = taken; given = given; stop = stop } ≡ fed_of (feed_in names a (length out₀) piece)) × (out ≡ feed_out names a piece out₀)
+  holds_answer stop e = (
+    come_answer names a (length out₀) piece taken given w.so_far stop e,
+    holds_out (cursor_step names) a piece out₀ taken given w (feed_in names a (length out₀) piece) (ap (λ (f : Fed (Roomed Cursor)). f.gives) e),
   )
 
   module _ (l : taken < length piece) {x : Stepped} (e : x ≡ step_of names next (get_or piece taken 0)) where
-    pub holds-event : {v : ℕ} → x.outcome ≡ outcome.Event v → given < length out₀ → {out' : List ℕ} → out' ≡ put_at given (v ∷ []) out
-        → Holds (cursorStep names) a piece out₀ out' x.next (taken + 1) (given + 1)
-    holds-event h r p = holds_on (cursorStep names) a piece out₀ taken given w l 1 (by-event names next (get_or piece taken 0) e h) refl (omega arith) p
+    pub holds_event : {v : ℕ} → x.outcome ≡ outcome.Event v → given < length out₀ → {out' : List ℕ} → out' ≡ put_at given (v ∷ []) out
+        → Holds (cursor_step names) a piece out₀ out' x.next (taken + 1) (given + 1)
+    holds_event h r p = holds_on (cursor_step names) a piece out₀ taken given w l 1 (by_event names next (get_or piece taken 0) e h) refl (omega arith) p
 
-    pub holds-nothing : x.outcome ≡ outcome.Nothing → Holds (cursorStep names) a piece out₀ out x.next (taken + 1) given
-    holds-nothing h =
+    pub holds_nothing : x.outcome ≡ outcome.Nothing → Holds (cursor_step names) a piece out₀ out x.next (taken + 1) given
+    holds_nothing h =
         let z : given + 0 ≡ given = omega arith in
-        rw z at (holds_on (cursorStep names) a piece out₀ taken given w l 0 (by-nothing names next (get_or piece taken 0) e h) refl (omega arith) (sym (put-none given out)))
+        rw z at (holds_on (cursor_step names) a piece out₀ taken given w l 0 (by_nothing names next (get_or piece taken 0) e h) refl (omega arith) (sym (put_none given out)))

@@ -10,18 +10,18 @@ use Rattle.grammar.specs.declared.Fault.TheVariants as fault
 use Rattle.grammar.specs.declared.Stop.{Stop}
 use Rattle.grammar.specs.declared.Stop.TheVariants.{Not, At}
 use Rattle.grammar.specs.Feeding.{Step, Fed, feed, Roomed, roomed, stepped}
-use Rattle.grammar.proofs.Feeding.{went, broke, roomed-fits, roomed-short, roomed-stop}
+use Rattle.grammar.proofs.Feeding.{went, broke, roomed_fits, roomed_short, roomed_stop}
 use Rattle.meaning.specs.Lent.{put_at}
-use Rattle.tags.proofs.Going.{Gone, gone-none, gone-on, gone-stop, gone-all}
-use Rattle.meaning.proofs.Lent.{put-none, put-put, length-put}
+use Rattle.tags.proofs.Going.{Gone, gone_none, gone_on, gone_stop, gone_all}
+use Rattle.meaning.proofs.Lent.{put_none, put_put, length_put}
 
 -- A state with the room that is left.
-abbrev pub roomIn : {A : Type 0} → A → ℕ → Roomed A
-roomIn a n = record { inner = a; left = n }
+abbrev pub room_in : {A : Type 0} → A → ℕ → Roomed A
+room_in a n = record { inner = a; left = n }
 
 -- The first `taken` bytes of a piece lead to next, and gave these bytes, so many, for which there is room.
 pub record Gives {A : Type 0} (step : A → ℕ → Step A) (a : A) (room : ℕ) (piece gives : List ℕ) (next : A) (taken given : ℕ) : Type 0 where
-  pub gone : Gone (roomed step) (roomIn a room) piece taken (roomIn next (room - given)) gives
+  pub gone : Gone (roomed step) (room_in a room) piece taken (room_in next (room - given)) gives
   pub count : given ≡ length gives
   pub fits : given ≤ room
 
@@ -29,38 +29,38 @@ module _ {A : Type 0} (step : A → ℕ → Step A) (a : A) (room : ℕ) (piece 
   pub gives_none : Gives step a room piece [] a 0 0
   gives_none =
       let e : room - 0 ≡ room = omega arith in
-      record { gone = rw e (gone-none (roomed step) (roomIn a room) piece); count = refl; fits = omega arith }
+      record { gone = rw e (gone_none (roomed step) (room_in a room) piece); count = refl; fits = omega arith }
 
   module _ {next : A} {gives : List ℕ} (taken given : ℕ) (g : Gives step a room piece gives next taken given) where
     -- The next byte is at fault, has no room for what it gives, or goes on; or there is none.
-    pub gives_all : length piece ≤ taken → feed (roomed step) (roomIn a room) piece ≡ went gives taken (roomIn next (room - given))
-    gives_all l = gone-all (roomed step) (roomIn a room) piece taken g.gone l
+    pub gives_all : length piece ≤ taken → feed (roomed step) (room_in a room) piece ≡ went gives taken (room_in next (room - given))
+    gives_all l = gone_all (roomed step) (room_in a room) piece taken g.gone l
 
-    pub gives-stop : taken < length piece → (k : Fault) → (step next (get_or piece taken 0)).stops ≡ At k
-        → feed (roomed step) (roomIn a room) piece ≡ broke gives taken (roomIn next (room - given)) k
-    gives-stop l k e =
-        gone-stop (roomed step) (roomIn a room) piece taken k g.gone l (roomed-stop step next (room - given) (get_or piece taken 0) k e)
+    pub gives_stop : taken < length piece → (k : Fault) → (step next (get_or piece taken 0)).stops ≡ At k
+        → feed (roomed step) (room_in a room) piece ≡ broke gives taken (room_in next (room - given)) k
+    gives_stop l k e =
+        gone_stop (roomed step) (room_in a room) piece taken k g.gone l (roomed_stop step next (room - given) (get_or piece taken 0) k e)
 
-    pub gives-short : taken < length piece → (step next (get_or piece taken 0)).stops ≡ Not → room - given < length (step next (get_or piece taken 0)).gives
-        → feed (roomed step) (roomIn a room) piece ≡ broke gives taken (roomIn next (room - given)) fault.Short
-    gives-short l e h =
-        gone-stop (roomed step) (roomIn a room) piece taken fault.Short g.gone l
-        (ap (λ (y : Step (Roomed A)). y.stops) (roomed-short step next (room - given) (get_or piece taken 0) e h))
+    pub gives_short : taken < length piece → (step next (get_or piece taken 0)).stops ≡ Not → room - given < length (step next (get_or piece taken 0)).gives
+        → feed (roomed step) (room_in a room) piece ≡ broke gives taken (room_in next (room - given)) fault.Short
+    gives_short l e h =
+        gone_stop (roomed step) (room_in a room) piece taken fault.Short g.gone l
+        (ap (λ (y : Step (Roomed A)). y.stops) (roomed_short step next (room - given) (get_or piece taken 0) e h))
 
-    pub gives-on : taken < length piece → {next' : A} {more : List ℕ} (n : ℕ) → step next (get_or piece taken 0) ≡ stepped next' more → n ≡ length more
+    pub gives_on : taken < length piece → {next' : A} {more : List ℕ} (n : ℕ) → step next (get_or piece taken 0) ≡ stepped next' more → n ≡ length more
         → n ≤ room - given → Gives step a room piece (gives ++ more) next' (taken + 1) (given + n)
-    gives-on l {next'} {more} n e m h =
+    gives_on l {next'} {more} n e m h =
         record {
-          gone = rw fit at (gone-on (roomed step) (roomIn a room) piece taken g.gone l (ap (λ (y : Step (Roomed A)). y.stops) fit));
+          gone = rw fit at (gone_on (roomed step) (room_in a room) piece taken g.gone l (ap (λ (y : Step (Roomed A)). y.stops) fit));
           count = rw length-append (omega (arith, g.count));
           fits = omega (arith, g.fits);
         }
       where
-        fit : roomed step (roomIn next (room - given)) (get_or piece taken 0) ≡ stepped (roomIn next' (room - (given + n))) more
+        fit : roomed step (room_in next (room - given)) (get_or piece taken 0) ≡ stepped (room_in next' (room - (given + n))) more
         fit =
             let minus : room - (given + n) ≡ room - given - length more = omega arith in
             let c : length more ≤ room - given = omega arith in
-            roomed-fits step next (room - given) (get_or piece taken 0) (rw e) (rw e c) ∙ rw (e, minus)
+            roomed_fits step next (room - given) (get_or piece taken 0) (rw e) (rw e c) ∙ rw (e, minus)
 
 -- The output holds what was given, and nothing else of it is changed.
 pub record Holds {A : Type 0} (step : A → ℕ → Step A) (a : A) (piece out₀ out : List ℕ) (next : A) (taken given : ℕ) : Type 0 where
@@ -69,19 +69,19 @@ pub record Holds {A : Type 0} (step : A → ℕ → Step A) (a : A) (piece out�
   pub holds : out ≡ put_at 0 gives out₀
 
 module _ {A : Type 0} (step : A → ℕ → Step A) (a : A) (piece out₀ : List ℕ) where
-  pub holds-none : Holds step a piece out₀ out₀ a 0 0
-  holds-none = record { gives = []; so_far = gives_none step a (length out₀) piece; holds = sym (put-none 0 out₀) }
+  pub holds_none : Holds step a piece out₀ out₀ a 0 0
+  holds_none = record { gives = []; so_far = gives_none step a (length out₀) piece; holds = sym (put_none 0 out₀) }
 
   module _ {out : List ℕ} {next : A} (taken given : ℕ) (w : Holds step a piece out₀ out next taken given) where
-    room-held : 0 + length w.gives ≤ length out₀
-    room-held = omega (arith, w.so_far.count, w.so_far.fits)
+    room_held : 0 + length w.gives ≤ length out₀
+    room_held = omega (arith, w.so_far.count, w.so_far.fits)
 
-    pub holds-length : length out ≡ length out₀
-    holds-length = ap length w.holds ∙ length-put 0 w.gives out₀ room-held
+    pub holds_length : length out ≡ length out₀
+    holds_length = ap length w.holds ∙ length_put 0 w.gives out₀ room_held
 
     -- What stands in the output, where the piece came to this.
-    pub holds-out : (f : Fed (Roomed A)) → f.gives ≡ w.gives → out ≡ f.gives ++ drop (length f.gives) out₀
-    holds-out f e =
+    pub holds_out : (f : Fed (Roomed A)) → f.gives ≡ w.gives → out ≡ f.gives ++ drop (length f.gives) out₀
+    holds_out f e =
         let z : 0 + length w.gives ≡ length w.gives = omega arith in
         rw e (w.holds ∙ rw z)
 
@@ -91,9 +91,9 @@ module _ {A : Type 0} (step : A → ℕ → Step A) (a : A) (piece out₀ : List
         let z : given ≡ 0 + length w.gives = omega (arith, w.so_far.count) in
         record {
           gives = w.gives ++ more;
-          so_far = gives-on step a (length out₀) piece taken given w.so_far l n e m h;
+          so_far = gives_on step a (length out₀) piece taken given w.so_far l n e m h;
           holds = p ∙ ap (λ (k : ℕ). put_at k more out) z ∙ ap (λ (u : List ℕ). put_at (0 + length w.gives) more u) w.holds
-              ∙ put-put 0 w.gives out₀ room-held more;
+              ∙ put_put 0 w.gives out₀ room_held more;
         }
 
 -- The same where only the number of bytes counts.

@@ -8,99 +8,99 @@ use lib.Dec.{ltb}
 use lib.ListN.{length, drop}
 use Rattle.grammar.specs.declared.Writing.{Writing}
 use Rattle.grammar.specs.declared.Writing.TheVariants as writing
-use Rattle.grammar.specs.Names.{lines_of, goodNames}
-use Rattle.grammar.specs.Feeding.{goesOn, Fed, Roomed}
-use Rattle.grammar.specs.Writing.{unwritten, writeFed, wholeStream, writeAnswer, writeOut}
-use Rattle.grammar.proofs.Feeding.{room-enough}
+use Rattle.grammar.specs.Names.{lines_of, good_names}
+use Rattle.grammar.specs.Feeding.{goes_on, Fed, Roomed}
+use Rattle.grammar.specs.Writing.{unwritten, write_fed, whole_stream, write_answer, write_out}
+use Rattle.grammar.proofs.Feeding.{room_enough}
 use Rattle.tags.specs.declared.writer.Scribe.{Scribe}
 use Rattle.tags.specs.declared.writer.Followed.{Followed}
 use Rattle.tags.specs.declared.writer.Wrote.{Wrote}
-use Rattle.tags.specs.Writers.{begin, scribeStep, followIn, followOf, writeIn, wroteOf, writtenOut}
+use Rattle.tags.specs.Writers.{begin, scribe_step, follow_in, follow_of, write_in, wrote_of, written_out}
 use Rattle.tags.proofs.Agreeing.{FeedsAgree}
-use Rattle.tags.proofs.Scribes.{Keeps, keeps-begin, scribe-writes}
+use Rattle.tags.proofs.Scribes.{Keeps, keeps_begin, scribe_writes}
 
 -- What `write` ensures of its answer and of the output.
 abbrev pub Answers : List ℕ → List ℕ → List ℕ → List ℕ → Writing → Type 0
-Answers names es out₀ out r = (r ≡ writeAnswer names es (length out₀)) × (out ≡ writeOut names es out₀)
+Answers names es out₀ out r = (r ≡ write_answer names es (length out₀)) × (out ≡ write_out names es out₀)
 
 module _ (names es out : List ℕ) where
-  bad-names : goodNames names ≡ false → Answers names es out out writing.Names
-  bad-names e = (rw e, rw e)
+  bad_names : good_names names ≡ false → Answers names es out out writing.Names
+  bad_names e = (rw e, rw e)
 
-  module _ (good : goodNames names ≡ true) where
-    agree : FeedsAgree (Keeps (length (lines_of names))) (followIn names begin es) (writeFed (lines_of names) es)
-    agree = scribe-writes names good begin unwritten es (keeps-begin (length (lines_of names)))
+  module _ (good : good_names names ≡ true) where
+    agree : FeedsAgree (Keeps (length (lines_of names))) (follow_in names begin es) (write_fed (lines_of names) es)
+    agree = scribe_writes names good begin unwritten es (keeps_begin (length (lines_of names)))
 
-    whole_is : goesOn (followIn names begin es).stops && (followIn names begin es).state.ended ≡ wholeStream (writeFed (lines_of names) es)
-    whole_is = ap₂ (λ (k t : _). goesOn k && t) agree.stops agree.state.ended
+    whole_is : goes_on (follow_in names begin es).stops && (follow_in names begin es).state.ended ≡ whole_stream (write_fed (lines_of names) es)
+    whole_is = ap₂ (λ (k t : _). goes_on k && t) agree.stops agree.state.ended
 
-    not-whole : goesOn (followIn names begin es).stops && (followIn names begin es).state.ended ≡ false
-        → Answers names es out out (writing.Refused (followIn names begin es).taken)
-    not-whole e =
-        let w : wholeStream (writeFed (lines_of names) es) ≡ false = sym whole_is ∙ e in
+    not_whole : goes_on (follow_in names begin es).stops && (follow_in names begin es).state.ended ≡ false
+        → Answers names es out out (writing.Refused (follow_in names begin es).taken)
+    not_whole e =
+        let w : whole_stream (write_fed (lines_of names) es) ≡ false = sym whole_is ∙ e in
         (rw (good, w, agree.taken), rw (good, w))
 
-    module _ (whole : goesOn (followIn names begin es).stops && (followIn names begin es).state.ended ≡ true) where
-      whole-there : wholeStream (writeFed (lines_of names) es) ≡ true
-      whole-there = sym whole_is ∙ whole
+    module _ (whole : goes_on (follow_in names begin es).stops && (follow_in names begin es).state.ended ≡ true) where
+      whole_there : whole_stream (write_fed (lines_of names) es) ≡ true
+      whole_there = sym whole_is ∙ whole
 
-      no_room : not (ltb (length out) (length (followIn names begin es).gives)) ≡ false → Answers names es out out writing.Short
+      no_room : not (ltb (length out) (length (follow_in names begin es).gives)) ≡ false → Answers names es out out writing.Short
       no_room e =
-          let f : ltb (length out) (length (writeFed (lines_of names) es).gives) ≡ true = rw agree.gives at (not-false (ltb (length out) (length (followIn names begin es).gives)) e) in
-          (rw (good, whole-there, f), rw (good, whole-there, f))
+          let f : ltb (length out) (length (write_fed (lines_of names) es).gives) ≡ true = rw agree.gives at (not-false (ltb (length out) (length (follow_in names begin es).gives)) e) in
+          (rw (good, whole_there, f), rw (good, whole_there, f))
 
-      has_room : not (ltb (length out) (length (followIn names begin es).gives)) ≡ true → (r : Wrote)
-          → r ≡ wroteOf (writeIn names begin (length out) es) → (out' : List ℕ) → out' ≡ writtenOut names begin es out
+      has_room_lem : not (ltb (length out) (length (follow_in names begin es).gives)) ≡ true → (r : Wrote)
+          → r ≡ wrote_of (write_in names begin (length out) es) → (out' : List ℕ) → out' ≡ written_out names begin es out
           → Answers names es out out' (writing.Taken r.given)
-      has_room e r p out' q = (rw (good, whole-there, full, count), rw (good, whole-there, full) text)
+      has_room_lem e r p out' q = (rw (good, whole_there, full, count), rw (good, whole_there, full) text)
         where
-          fits : ltb (length out) (length (followIn names begin es).gives) ≡ false
-          fits = not-true (ltb (length out) (length (followIn names begin es).gives)) e
+          fits : ltb (length out) (length (follow_in names begin es).gives) ≡ false
+          fits = not-true (ltb (length out) (length (follow_in names begin es).gives)) e
 
-          full : ltb (length out) (length (writeFed (lines_of names) es).gives) ≡ false
+          full : ltb (length out) (length (write_fed (lines_of names) es).gives) ≡ false
           full = rw agree.gives at fits
 
-          gives : (writeIn names begin (length out) es).gives ≡ (writeFed (lines_of names) es).gives
+          gives : (write_in names begin (length out) es).gives ≡ (write_fed (lines_of names) es).gives
           gives =
               ap (λ (f : Fed (Roomed Scribe)). f.gives)
-              (room-enough (scribeStep names) begin (length out) es (ltb-false (length out) (length (followIn names begin es).gives) fits))
+              (room_enough (scribe_step names) begin (length out) es (ltb-false (length out) (length (follow_in names begin es).gives) fits))
               ∙ agree.gives
 
-          count : r.given ≡ length (writeFed (lines_of names) es).gives
+          count : r.given ≡ length (write_fed (lines_of names) es).gives
           count = ap (λ (x : Wrote). x.given) p ∙ ap length gives
 
-          text : out' ≡ (writeFed (lines_of names) es).gives ++ drop (length (writeFed (lines_of names) es).gives) out
+          text : out' ≡ (write_fed (lines_of names) es).gives ++ drop (length (write_fed (lines_of names) es).gives) out
           text = q ∙ ap (λ (u : List ℕ). u ++ drop (length u) out) gives
 
 -- The same, in the terms of what the writer's functions answered: g whether the names are good, all where the events lead
 -- from s, and t whether that is a whole stream.
-module _ (names es out : List ℕ) (g : Bool) (good : g ≡ goodNames names) where
-  pub answers-names : not g ≡ true → Answers names es out out writing.Names
-  answers-names h = bad-names names es out (sym good ∙ not-true g h)
+module _ (names es out : List ℕ) (g : Bool) (good : g ≡ good_names names) where
+  pub answers_names : not g ≡ true → Answers names es out out writing.Names
+  answers_names h = bad_names names es out (sym good ∙ not-true g h)
 
-  module _ (h : not g ≡ false) (s : Scribe) (b : s ≡ begin) (all : Followed) (a : all ≡ followOf (length out) (followIn names s es))
-      (t : Bool) (w : t ≡ goesOn all.stop && all.next.ended) where
-    good-there : goodNames names ≡ true
-    good-there = sym good ∙ not-false g h
+  module _ (h : not g ≡ false) (s : Scribe) (b : s ≡ begin) (all : Followed) (a : all ≡ follow_of (length out) (follow_in names s es))
+      (t : Bool) (w : t ≡ goes_on all.stop && all.next.ended) where
+    good_there : good_names names ≡ true
+    good_there = sym good ∙ not-false g h
 
-    all-is : all ≡ followOf (length out) (followIn names begin es)
-    all-is = a ∙ ap (λ (x : Scribe). followOf (length out) (followIn names x es)) b
+    all_is : all ≡ follow_of (length out) (follow_in names begin es)
+    all_is = a ∙ ap (λ (x : Scribe). follow_of (length out) (follow_in names x es)) b
 
-    tested : (u : Bool) → t ≡ u → goesOn (followIn names begin es).stops && (followIn names begin es).state.ended ≡ u
-    tested u e = ap (λ (x : Followed). goesOn x.stop && x.next.ended) (sym all-is) ∙ sym w ∙ e
+    tested : (u : Bool) → t ≡ u → goes_on (follow_in names begin es).stops && (follow_in names begin es).state.ended ≡ u
+    tested u e = ap (λ (x : Followed). goes_on x.stop && x.next.ended) (sym all_is) ∙ sym w ∙ e
 
-    fits-is : (u : Bool) → all.space.fits ≡ u → not (ltb (length out) (length (followIn names begin es).gives)) ≡ u
-    fits-is u e = ap (λ (x : Followed). x.space.fits) (sym all-is) ∙ e
+    fits_is : (u : Bool) → all.space.fits ≡ u → not (ltb (length out) (length (follow_in names begin es).gives)) ≡ u
+    fits_is u e = ap (λ (x : Followed). x.space.fits) (sym all_is) ∙ e
 
-    pub answers-refused : not t ≡ true → Answers names es out out (writing.Refused all.taken)
-    answers-refused e = rw all-is (not-whole names es out good-there (tested false (not-true t e)))
+    pub answers_refused : not t ≡ true → Answers names es out out (writing.Refused all.taken)
+    answers_refused e = rw all_is (not_whole names es out good_there (tested false (not-true t e)))
 
     module _ (e : not t ≡ false) where
-      pub answers-short : not all.space.fits ≡ true → Answers names es out out writing.Short
-      answers-short f = no_room names es out good-there (tested true (not-false t e)) (fits-is false (not-true all.space.fits f))
+      pub answers_short : not all.space.fits ≡ true → Answers names es out out writing.Short
+      answers_short f = no_room names es out good_there (tested true (not-false t e)) (fits_is false (not-true all.space.fits f))
 
-      pub answers-written : not all.space.fits ≡ false → (r : Wrote) (out' : List ℕ)
-          → r ≡ wroteOf (writeIn names s (length out) es) → out' ≡ writtenOut names s es out
+      pub answers_written : not all.space.fits ≡ false → (r : Wrote) (out' : List ℕ)
+          → r ≡ wrote_of (write_in names s (length out) es) → out' ≡ written_out names s es out
           → Answers names es out out' (writing.Taken r.given)
-      answers-written f r out' p q =
-          has_room names es out good-there (tested true (not-false t e)) (fits-is true (not-false all.space.fits f)) r (rw b at p) out' (rw b at q)
+      answers_written f r out' p q =
+          has_room_lem names es out good_there (tested true (not-false t e)) (fits_is true (not-false all.space.fits f)) r (rw b at p) out' (rw b at q)

@@ -14,51 +14,51 @@ use Rattle.grammar.specs.declared.Fault.TheVariants as fault
 use Rattle.grammar.specs.declared.Stop.{Stop}
 use Rattle.grammar.specs.declared.Stop.TheVariants.{Not, At}
 use Rattle.grammar.specs.declared.Reading.TheVariants as answer
-use Rattle.grammar.specs.Names.{lines_of, goodNames}
-use Rattle.grammar.specs.Feeding.{goesOn, Fed, Roomed, feed}
-use Rattle.grammar.specs.Reading.{Place, fresh, closed, readFed, endStop, textStop, readAnswer, readOut}
-use Rattle.grammar.proofs.Feeding.{room-inner, room-enough, withRoom, not_at}
+use Rattle.grammar.specs.Names.{lines_of, good_names}
+use Rattle.grammar.specs.Feeding.{goes_on, Fed, Roomed, feed}
+use Rattle.grammar.specs.Reading.{Place, fresh, closed, read_fed, end_stop, text_stop, read_answer, read_out}
+use Rattle.grammar.proofs.Feeding.{room_inner, room_enough, with_room, not_at}
 use Rattle.tags.specs.declared.reader.Cursor.{Cursor}
 use Rattle.tags.specs.declared.reader.Fed as fed
-use Rattle.tags.specs.Cursors.{begin, closed_in, cursorStep, feedIn, fedOf, feedOut, wholeStop}
+use Rattle.tags.specs.Cursors.{begin, closed_in, cursor_step, feed_in, fed_of, feed_out, whole_stop}
 use Rattle.tags.proofs.Agreeing.{FeedsAgree, InRoom}
-use Rattle.tags.proofs.Places.{Stands, stands-begin, closed_is, piece-agrees}
+use Rattle.tags.proofs.Places.{Stands, stands_begin, closed_is, piece_agrees}
 
-went_on : (t : Stop) → goesOn t ≡ true → t ≡ Not
+went_on : (t : Stop) → goes_on t ≡ true → t ≡ Not
 went_on Not e = refl
 went_on (At k) e = cc
 
-module _ (names : List ℕ) (good : goodNames names ≡ true) (text : List ℕ) (room : ℕ) where
+module _ (names : List ℕ) (good : good_names names ≡ true) (text : List ℕ) (room : ℕ) where
   abbrev pub mine : Fed (Roomed Cursor)
-  mine = feedIn names begin room text
+  mine = feed_in names begin room text
 
   abbrev pub meant : Fed (Roomed Place)
-  meant = readFed (lines_of names) room text
+  meant = read_fed (lines_of names) room text
 
   pub same : FeedsAgree (InRoom (Stands (length (lines_of names)))) mine meant
-  same = piece-agrees names good begin fresh room text (stands-begin (length (lines_of names)))
+  same = piece_agrees names good begin fresh room text (stands_begin (length (lines_of names)))
 
   -- The room that is left after a text that goes on.
-  left_is : goesOn meant.stops ≡ true → room - length mine.gives ≡ meant.state.left
+  left_is : goes_on meant.stops ≡ true → room - length mine.gives ≡ meant.state.left
   left_is e =
       let n : mine.stops ≡ Not = same.stops ∙ went_on meant.stops e in
-      let f = room-enough (cursorStep names) begin room text (room-inner (cursorStep names) begin room text n).1 in
-      let g : mine.gives ≡ (feed (cursorStep names) begin text).gives = ap (λ (x : Fed (Roomed Cursor)). x.gives) f in
-      let h : mine.state.left ≡ room - length (feed (cursorStep names) begin text).gives = ap (λ (x : Fed (Roomed Cursor)). x.state.left) f in
+      let f = room_enough (cursor_step names) begin room text (room_inner (cursor_step names) begin room text n).1 in
+      let g : mine.gives ≡ (feed (cursor_step names) begin text).gives = ap (λ (x : Fed (Roomed Cursor)). x.gives) f in
+      let h : mine.state.left ≡ room - length (feed (cursor_step names) begin text).gives = ap (λ (x : Fed (Roomed Cursor)). x.state.left) f in
       ap (λ (u : List ℕ). room - length u) g ∙ sym h ∙ same.state.left
 
   -- The survey's verdict is the text's.
-  pub stop_is : wholeStop (fedOf mine) room ≡ textStop meant
-  stop_is = go (goesOn meant.stops) refl
+  pub stop_is : whole_stop (fed_of mine) room ≡ text_stop meant
+  stop_is = go (goes_on meant.stops) refl
     where
-      go : (t : Bool) → goesOn meant.stops ≡ t → wholeStop (fedOf mine) room ≡ textStop meant
+      go : (t : Bool) → goes_on meant.stops ≡ t → whole_stop (fed_of mine) room ≡ text_stop meant
       go true e =
-          let f : goesOn mine.stops ≡ true = ap goesOn same.stops ∙ e in
-          rw (e, f) (ap₂ endStop (closed_is same.state.inner) (left_is e))
-      go false e = let f : goesOn mine.stops ≡ false = ap goesOn same.stops ∙ e in rw (e, f) same.stops
+          let f : goes_on mine.stops ≡ true = ap goes_on same.stops ∙ e in
+          rw (e, f) (ap₂ end_stop (closed_is same.state.inner) (left_is e))
+      go false e = let f : goes_on mine.stops ≡ false = ap goes_on same.stops ∙ e in rw (e, f) same.stops
 
   -- A text without a fault has left room for byte 65.
-  end_fits : (c : Bool) (l : ℕ) → endStop c l ≡ Not → 0 < l
+  end_fits : (c : Bool) (l : ℕ) → end_stop c l ≡ Not → 0 < l
   end_fits true l e = go (ltb 0 l) refl e
     where
       go : (t : Bool) → ltb 0 l ≡ t → cond t Not (At fault.Short) ≡ Not → 0 < l
@@ -66,58 +66,58 @@ module _ (names : List ℕ) (good : goodNames names ≡ true) (text : List ℕ) 
       go false h f = not_at fault.Short (sym f)
   end_fits false l e = not_at fault.Ended (sym e)
 
-  pub room-for-end : textStop meant ≡ Not → length mine.gives < room
-  room-for-end n = go (goesOn meant.stops) refl
+  pub room_for_end : text_stop meant ≡ Not → length mine.gives < room
+  room_for_end n = go (goes_on meant.stops) refl
     where
-      go : (t : Bool) → goesOn meant.stops ≡ t → length mine.gives < room
+      go : (t : Bool) → goes_on meant.stops ≡ t → length mine.gives < room
       go true e =
           let h : 0 < meant.state.left = end_fits (closed meant.state.inner) meant.state.left (rw e at n) in
           let g = left_is e in
           omega (arith, g, h)
       go false e =
           let h : meant.stops ≡ Not = rw e at n in
-          absurd (true≢false (sym (ap goesOn h) ∙ e))
+          absurd (true≢false (sym (ap goes_on h) ∙ e))
 
 -- The list of names is bad.
-pub answers-names : (names text out : List ℕ) → goodNames names ≡ false
-    → (answer.Names ≡ readAnswer names text (length out)) × (out ≡ readOut names text out)
-answers-names names text out bad = rw bad (refl, refl)
+pub answers_names : (names text out : List ℕ) → good_names names ≡ false
+    → (answer.Names ≡ read_answer names text (length out)) × (out ≡ read_out names text out)
+answers_names names text out bad = rw bad (refl, refl)
 
-module _ (names : List ℕ) (good : goodNames names ≡ true) (text out : List ℕ) {f : fed.Fed} {stop : Stop}
-    (e : f ≡ fedOf (feedIn names begin (length out) text)) (v : stop ≡ wholeStop f (length out)) where
-  verdict : stop ≡ textStop (readFed (lines_of names) (length out) text)
-  verdict = v ∙ ap (λ (x : fed.Fed). wholeStop x (length out)) e ∙ stop_is names good text (length out)
+module _ (names : List ℕ) (good : good_names names ≡ true) (text out : List ℕ) {f : fed.Fed} {stop : Stop}
+    (e : f ≡ fed_of (feed_in names begin (length out) text)) (v : stop ≡ whole_stop f (length out)) where
+  verdict : stop ≡ text_stop (read_fed (lines_of names) (length out) text)
+  verdict = v ∙ ap (λ (x : fed.Fed). whole_stop x (length out)) e ∙ stop_is names good text (length out)
 
-  taken_is : f.taken ≡ (readFed (lines_of names) (length out) text).taken
+  taken_is : f.taken ≡ (read_fed (lines_of names) (length out) text).taken
   taken_is = ap (λ (x : fed.Fed). x.taken) e ∙ (same names good text (length out)).taken
 
-  gives-are : (feedIn names begin (length out) text).gives ≡ (readFed (lines_of names) (length out) text).gives
-  gives-are = (same names good text (length out)).gives
+  gives_are : (feed_in names begin (length out) text).gives ≡ (read_fed (lines_of names) (length out) text).gives
+  gives_are = (same names good text (length out)).gives
 
-  given_is : f.given ≡ length (readFed (lines_of names) (length out) text).gives
-  given_is = ap (λ (x : fed.Fed). x.given) e ∙ ap length gives-are
+  given_is : f.given ≡ length (read_fed (lines_of names) (length out) text).gives
+  given_is = ap (λ (x : fed.Fed). x.given) e ∙ ap length gives_are
 
   -- The text is at fault.
-  pub answers-refused : {k : Fault} → stop ≡ At k
-      → (answer.Refused k f.taken ≡ readAnswer names text (length out)) × (out ≡ readOut names text out)
-  answers-refused {k} h =
+  pub answers_refused : {k : Fault} → stop ≡ At k
+      → (answer.Refused k f.taken ≡ read_answer names text (length out)) × (out ≡ read_out names text out)
+  answers_refused {k} h =
       let t = sym verdict ∙ h in
       rw (good, t) (ap (λ (n : ℕ). answer.Refused k n) taken_is, refl)
 
-  pub given-fits : stop ≡ Not → f.given < length out
-  given-fits h =
+  pub given_fits : stop ≡ Not → f.given < length out
+  given_fits h =
       let t = sym verdict ∙ h in
-      let l = room-for-end names good text (length out) t in
+      let l = room_for_end names good text (length out) t in
       omega (arith, l, ap (λ (x : fed.Fed). x.given) e)
 
   -- It is not, and its events stand in the output.
-  pub answers-taken : {out' : List ℕ} → stop ≡ Not → out' ≡ feedOut names begin text out
-      → (answer.Taken (f.given + 1) ≡ readAnswer names text (length out)) × (set out' f.given 65 ≡ readOut names text out)
-  answers-taken {out'} h p =
+  pub answers_taken : {out' : List ℕ} → stop ≡ Not → out' ≡ feed_out names begin text out
+      → (answer.Taken (f.given + 1) ≡ read_answer names text (length out)) × (set out' f.given 65 ≡ read_out names text out)
+  answers_taken {out'} h p =
       let t = sym verdict ∙ h in
-      let u = (readFed (lines_of names) (length out) text).gives in
-      let l : length u < length out = omega (arith, given_is, given-fits h) in
-      let o : out' ≡ u ++ drop (length u) out = p ∙ ap (λ (z : List ℕ). z ++ drop (length z) out) gives-are in
+      let u = (read_fed (lines_of names) (length out) text).gives in
+      let l : length u < length out = omega (arith, given_is, given_fits h) in
+      let o : out' ≡ u ++ drop (length u) out = p ∙ ap (λ (z : List ℕ). z ++ drop (length z) out) gives_are in
       let w : set (u ++ drop (length u) out) (length u) 65 ≡ u ++ (65 ∷ drop (suc (length u)) out) =
       rw (drop-cons out (length u) 0 l) (set_at u _ (drop (suc (length u)) out) 65 (length u) refl) in
       rw (good, t) (ap answer.Taken (add-one f.given ∙ ap suc given_is), rw (o, given_is) w)

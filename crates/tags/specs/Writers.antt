@@ -1,14 +1,14 @@
 -- How far a stream is written, as the writer holds it, and an event's step in its terms. Definitions only. That this is
 -- the writing of `grammar` is proved.
 use Rattle.std.specs.Prelude.{Bool, true, false, not, cond, ◌&&◌, List, [], ◌≡◌, ℕ, ◌+◌, ◌-◌, ◌%◌, ◌≤◌, eqb, ltb, length}
-use Rattle.meaning.specs.Lent.{onFront}
+use Rattle.meaning.specs.Lent.{on_front}
 use Rattle.answers.specs.declared.Event.{Event}
 use Rattle.answers.specs.declared.Event.TheVariants as event
-use Rattle.answers.specs.Bytes.{meaningOf}
+use Rattle.answers.specs.Bytes.{meaning_of}
 use Rattle.grammar.specs.declared.Fault.TheVariants as fault
 use Rattle.grammar.specs.declared.Stop.{Stop}
 use Rattle.grammar.specs.declared.Stop.TheVariants.{Not, At}
-use Rattle.grammar.specs.Tags.{Tag, tagText}
+use Rattle.grammar.specs.Tags.{Tag, tag_text}
 use Rattle.grammar.specs.Feeding as feeding
 use Rattle.names.specs.declared.Word.{Word}
 use Rattle.tags.specs.declared.levels.Levels.{Levels}
@@ -22,10 +22,10 @@ use Rattle.tags.specs.declared.writer.Space.{Space}
 use Rattle.tags.specs.declared.writer.Followed.{Followed}
 use Rattle.tags.specs.declared.writer.Wrote.{Wrote}
 use Rattle.names.specs.Words.{no_word, spelt, word_at}
-use Rattle.tags.specs.Levels.{noLevels, deeperBy, shallower, newestOf}
+use Rattle.tags.specs.Levels.{no_levels, deeper_by, shallower, newest_of}
 
 abbrev pub begin : Scribe
-begin = record { levels = noLevels; ended = false }
+begin = record { levels = no_levels; ended = false }
 
 abbrev pub wrong : Scribe → Spelled
 wrong s = record { next = s; given = given.Fault; name = no_word }
@@ -40,39 +40,39 @@ abbrev pub written : Levels → Form → Word → Spelled
 written l f w = record { next = record { levels = l; ended = false }; given = given.Tag f; name = w }
 
 -- A name that can be written has 1 to 16 bytes.
-abbrev pub hasName : Word → Bool
-hasName w = ltb 0 w.length && ltb w.length 17
+abbrev pub has_name : Word → Bool
+has_name w = ltb 0 w.length && ltb w.length 17
 
-abbrev pub openEvent : List ℕ → Scribe → ℕ → Spelled
-openEvent names s a =
-    cond (hasName (word_at names a) && ltb s.levels.depth 40)
-    (written (deeperBy s.levels (a % 256)) form.Opening (word_at names a))
+abbrev pub open_event : List ℕ → Scribe → ℕ → Spelled
+open_event names s a =
+    cond (has_name (word_at names a) && ltb s.levels.depth 40)
+    (written (deeper_by s.levels (a % 256)) form.Opening (word_at names a))
     (wrong s)
 
-abbrev pub pointEvent : List ℕ → Scribe → ℕ → Spelled
-pointEvent names s a = cond (hasName (word_at names a)) (written s.levels form.Empty (word_at names a)) (wrong s)
+abbrev pub point_event : List ℕ → Scribe → ℕ → Spelled
+point_event names s a = cond (has_name (word_at names a)) (written s.levels form.Empty (word_at names a)) (wrong s)
 
-abbrev pub closeEvent : List ℕ → Scribe → Spelled
-closeEvent names s =
-    cond (hasName (word_at names (newestOf s.levels)))
-    (written (shallower s.levels) form.Closing (word_at names (newestOf s.levels)))
+abbrev pub close_event : List ℕ → Scribe → Spelled
+close_event names s =
+    cond (has_name (word_at names (newest_of s.levels)))
+    (written (shallower s.levels) form.Closing (word_at names (newest_of s.levels)))
     (wrong s)
 
 -- A close that names a label: the newest's.
-abbrev pub closeOfEvent : List ℕ → Scribe → ℕ → Spelled
-closeOfEvent names s a = cond (eqb (newestOf s.levels) a) (closeEvent names s) (wrong s)
+abbrev pub close_of_event : List ℕ → Scribe → ℕ → Spelled
+close_of_event names s a = cond (eqb (newest_of s.levels) a) (close_event names s) (wrong s)
 
-abbrev pub eventStep : List ℕ → Scribe → Event → Spelled
-eventStep names s (event.Open a) = openEvent names s a
-eventStep names s (event.Point a) = pointEvent names s a
-eventStep names s event.Close = closeEvent names s
-eventStep names s (event.CloseOf a) = closeOfEvent names s a
-eventStep names s event.End = ended s
-eventStep names s event.Unknown = wrong s
+abbrev pub event_step : List ℕ → Scribe → Event → Spelled
+event_step names s (event.Open a) = open_event names s a
+event_step names s (event.Point a) = point_event names s a
+event_step names s event.Close = close_event names s
+event_step names s (event.CloseOf a) = close_of_event names s a
+event_step names s event.End = ended s
+event_step names s event.Unknown = wrong s
 
 -- One event byte. The names are the first 32 lines of the list. After byte 65 nothing goes on.
-abbrev pub spellStep : List ℕ → Scribe → ℕ → Spelled
-spellStep names s b = cond s.ended (wrong s) (eventStep names s (meaningOf b))
+abbrev pub spell_step : List ℕ → Scribe → ℕ → Spelled
+spell_step names s b = cond s.ended (wrong s) (event_step names s (meaning_of b))
 
 ---------------------------------------------------------------- a tag's bytes
 
@@ -81,13 +81,13 @@ tag_of form.Opening x = Tag.opening x
 tag_of form.Closing x = Tag.closing x
 tag_of form.Empty x = Tag.empty x
 
-abbrev pub tagBytes : Form → Word → List ℕ
-tagBytes f w = tagText (tag_of f (spelt w))
+abbrev pub tag_bytes : Form → Word → List ℕ
+tag_bytes f w = tag_text (tag_of f (spelt w))
 
-abbrev pub tagLength : Form → Word → ℕ
-tagLength form.Opening w = 2 + w.length
-tagLength form.Closing w = 3 + w.length
-tagLength form.Empty w = 3 + w.length
+abbrev pub tag_length : Form → Word → ℕ
+tag_length form.Opening w = 2 + w.length
+tag_length form.Closing w = 3 + w.length
+tag_length form.Empty w = 3 + w.length
 
 -- A word of at most 16 bytes, in 16 that it has room for.
 pub record Writable (w : Word) : Type 0 where
@@ -96,25 +96,25 @@ pub record Writable (w : Word) : Type 0 where
 
 ---------------------------------------------------------------- a piece of a stream
 
-abbrev pub givesBy : Given → Word → List ℕ
-givesBy given.Nothing w = []
-givesBy (given.Tag f) w = tagBytes f w
-givesBy given.Fault w = []
+abbrev pub gives_by : Given → Word → List ℕ
+gives_by given.Nothing w = []
+gives_by (given.Tag f) w = tag_bytes f w
+gives_by given.Fault w = []
 
-abbrev pub stopBy : Given → Stop
-stopBy given.Nothing = Not
-stopBy (given.Tag f) = Not
-stopBy given.Fault = At fault.Byte
+abbrev pub stop_by : Given → Stop
+stop_by given.Nothing = Not
+stop_by (given.Tag f) = Not
+stop_by given.Fault = At fault.Byte
 
-abbrev pub isFault : Given → Bool
-isFault given.Nothing = false
-isFault (given.Tag f) = false
-isFault given.Fault = true
+abbrev pub is_fault : Given → Bool
+is_fault given.Nothing = false
+is_fault (given.Tag f) = false
+is_fault given.Fault = true
 
-abbrev pub scribeStep : List ℕ → Scribe → ℕ → feeding.Step Scribe
-scribeStep names s b =
-    let x = spellStep names s b in
-    record { next = x.next; gives = givesBy x.given x.name; stops = stopBy x.given }
+abbrev pub scribe_step : List ℕ → Scribe → ℕ → feeding.Step Scribe
+scribe_step names s b =
+    let x = spell_step names s b in
+    record { next = x.next; gives = gives_by x.given x.name; stops = stop_by x.given }
 
 -- The room that n bytes leave, and what n more leave of it.
 abbrev pub space_of : ℕ → ℕ → Space
@@ -124,20 +124,20 @@ abbrev pub less_by : Space → ℕ → Space
 less_by s n = cond (ltb s.left n) (record { left = 0; fits = false }) (record { left = s.left - n; fits = s.fits })
 
 -- Events from a scribe, and the same with room for so many bytes.
-abbrev pub followIn : List ℕ → Scribe → List ℕ → feeding.Fed Scribe
-followIn names s events = feeding.feed (scribeStep names) s events
+abbrev pub follow_in : List ℕ → Scribe → List ℕ → feeding.Fed Scribe
+follow_in names s events = feeding.feed (scribe_step names) s events
 
-abbrev pub writeIn : List ℕ → Scribe → ℕ → List ℕ → feeding.Fed (feeding.Roomed Scribe)
-writeIn names s room piece = feeding.feed (feeding.roomed (scribeStep names)) (record { inner = s; left = room }) piece
+abbrev pub write_in : List ℕ → Scribe → ℕ → List ℕ → feeding.Fed (feeding.Roomed Scribe)
+write_in names s room piece = feeding.feed (feeding.roomed (scribe_step names)) (record { inner = s; left = room }) piece
 
 -- The answers: bytes by their number.
-abbrev pub followOf : ℕ → feeding.Fed Scribe → Followed
-followOf room f = record { next = f.state; taken = f.taken; space = space_of room (length f.gives); stop = f.stops }
+abbrev pub follow_of : ℕ → feeding.Fed Scribe → Followed
+follow_of room f = record { next = f.state; taken = f.taken; space = space_of room (length f.gives); stop = f.stops }
 
-abbrev pub wroteOf : feeding.Fed (feeding.Roomed Scribe) → Wrote
-wroteOf f = record { next = f.state.inner; taken = f.taken; given = length f.gives; stop = f.stops }
+abbrev pub wrote_of : feeding.Fed (feeding.Roomed Scribe) → Wrote
+wrote_of f = record { next = f.state.inner; taken = f.taken; given = length f.gives; stop = f.stops }
 
 -- The output after a piece: its tags from the front, and nothing else changed.
-abbrev pub writtenOut : List ℕ → Scribe → List ℕ → List ℕ → List ℕ
-writtenOut names s piece out =
-    onFront (writeIn names s (length out) piece).gives out
+abbrev pub written_out : List ℕ → Scribe → List ℕ → List ℕ → List ℕ
+written_out names s piece out =
+    on_front (write_in names s (length out) piece).gives out

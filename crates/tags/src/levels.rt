@@ -1,6 +1,6 @@
 // The labels of the elements that are open, by value: at most 40.
 ghost use Rattle.std.specs.Prelude.{◌≡◌};
-ghost use Rattle.tags.specs.Levels.{noLevels, deeperBy, shallower, newestOf};
+ghost use Rattle.tags.specs.Levels.{no_levels, deeper_by, shallower, newest_of};
 
 // The label of each open element, the outermost first, and how many are open. What stands after those does not count.
 #[derive(Drop)]
@@ -11,7 +11,7 @@ pub struct Levels {
 
 impl Levels {
     pub fn none() -> Levels
-        ensures { result ≡ noLevels }
+        ensures { result ≡ no_levels }
     {
         Levels {
             labels: [0; 40],
@@ -21,7 +21,7 @@ impl Levels {
 
     // One element more is open, where that is allowed.
     pub fn deeper(self, label: u8) -> Levels
-        ensures { result ≡ deeperBy self label }
+        ensures { result ≡ deeper_by self label }
     {
         let depth = self.depth;
         let mut next = self;
@@ -45,7 +45,7 @@ impl Levels {
 
     // The label of the newest open element; 255, which is no label, where none is open, or more than may be.
     pub fn newest(self) -> u8
-        ensures { result ≡ newestOf self }
+        ensures { result ≡ newest_of self }
     {
         let depth = self.depth;
         if (depth == 0) | (40 < depth) {

@@ -1,8 +1,8 @@
 // The reader: tagged text in, event bytes out. A cursor, by value, says how far a text is read, so that it can be fed in
 // pieces; `read` takes a whole text, and judges all of it before it writes.
 ghost use Rattle.std.specs.Prelude.{◌≡◌, ◌+◌, ◌-◌, ◌<◌, length, set};
-ghost use Rattle.grammar.specs.Reading.{readAnswer, readOut, endStop};
-ghost use Rattle.tags.specs.Cursors.{begin, faulted, moved, closed_in, tag_at, openStep, closeStep, pointStep, tagStep, between, angle, slashed, opening, closing, empty, step_of, feedIn, fedBy, fedOf, feedOut, wholeStop};
+ghost use Rattle.grammar.specs.Reading.{read_answer, read_out, end_stop};
+ghost use Rattle.tags.specs.Cursors.{begin, faulted, moved, closed_in, tag_at, open_step, close_step, point_step, tag_step, between, angle, slashed, opening, closing, empty, step_of, feed_in, fed_by, fed_of, feed_out, whole_stop};
 
 use crate::levels::Levels;
 use grammar::{Fault, Reading, Stop};
@@ -112,7 +112,7 @@ fn tag_at(levels: Levels, event: u8) -> Stepped
 
 // An opening tag of a known name.
 fn open_step(cursor: Cursor, label: u8) -> Stepped
-    ensures { result ≡ openStep cursor label }
+    ensures { result ≡ open_step cursor label }
 {
     let levels = cursor.levels;
     if levels.depth < 40 {
@@ -125,7 +125,7 @@ fn open_step(cursor: Cursor, label: u8) -> Stepped
 // A closing tag of a known name gives the close that names its label, which is below 32; one that is not is taken for its
 // remainder.
 fn close_step(cursor: Cursor, label: u8) -> Stepped
-    ensures { result ≡ closeStep cursor label }
+    ensures { result ≡ close_step cursor label }
 {
     let levels = cursor.levels;
     if levels.newest() == label {
@@ -137,7 +137,7 @@ fn close_step(cursor: Cursor, label: u8) -> Stepped
 
 // An empty-element tag of a known name: a label is below 32, and one that is not is taken for its remainder.
 fn point_step(cursor: Cursor, label: u8) -> Stepped
-    ensures { result ≡ pointStep cursor label }
+    ensures { result ≡ point_step cursor label }
 {
     let levels = cursor.levels;
     tag_at(levels, 32 + label % 32)
@@ -145,7 +145,7 @@ fn point_step(cursor: Cursor, label: u8) -> Stepped
 
 // A tag at its ">": its name is judged first.
 fn tag_step(names: &[u8], cursor: Cursor) -> Stepped
-    ensures { result ≡ tagStep names.now cursor }
+    ensures { result ≡ tag_step names.now cursor }
 {
     let within = cursor.within;
     let name = cursor.name;
@@ -269,7 +269,7 @@ pub struct Fed {
 
 impl Fed {
     fn made(next: Cursor, taken: usize, given: usize, stop: Stop) -> Fed
-        ensures { result ≡ fedBy next taken given stop }
+        ensures { result ≡ fed_by next taken given stop }
     {
         Fed {
             next: next,
@@ -282,7 +282,7 @@ impl Fed {
 
 // A piece of text, with room for so many events: what `feed` would answer. Nothing is written.
 pub fn survey(names: &[u8], cursor: Cursor, piece: &[u8], room: usize) -> Fed
-    ensures { result ≡ fedOf (feedIn names.now cursor room piece.now) }
+    ensures { result ≡ fed_of (feed_in names.now cursor room piece.now) }
 {
     let mut at = cursor;
     let mut taken: usize = 0;
@@ -311,8 +311,8 @@ pub fn survey(names: &[u8], cursor: Cursor, piece: &[u8], room: usize) -> Fed
 
 // A piece of text: its events are written from the front of the output, as far as it goes on without a fault.
 pub fn feed(names: &[u8], cursor: Cursor, piece: &[u8], out: &mut [u8]) -> Fed
-    ensures value { result ≡ fedOf (feedIn names.now cursor (length out.old) piece.now) }
-    ensures out_after { out.new ≡ feedOut names.now cursor piece.now out.old }
+    ensures value { result ≡ fed_of (feed_in names.now cursor (length out.old) piece.now) }
+    ensures out_after { out.new ≡ feed_out names.now cursor piece.now out.old }
 {
     let mut at = cursor;
     let mut taken: usize = 0;
@@ -342,7 +342,7 @@ pub fn feed(names: &[u8], cursor: Cursor, piece: &[u8], out: &mut [u8]) -> Fed
 
 // The text's end: nothing may be open, and there is room for byte 65.
 pub fn end(cursor: Cursor, room: usize) -> Stop
-    ensures { result ≡ endStop (closed_in cursor) room }
+    ensures { result ≡ end_stop (closed_in cursor) room }
 {
     if !cursor.closed() {
         return Stop::At(Fault::Ended);
@@ -363,7 +363,7 @@ fn left(room: usize, given: usize) -> usize
 
 // The fault of a whole text, if it has one: the first byte's, or else the end's.
 fn whole(fed: Fed, room: usize) -> Stop
-    ensures { result ≡ wholeStop fed room }
+    ensures { result ≡ whole_stop fed room }
 {
     let stop = fed.stop;
     match stop {
@@ -383,8 +383,8 @@ fn put_end(out: &mut [u8], given: usize) -> usize
 
 // A whole text: its events and byte 65, from the front of the output. A refusal writes nothing.
 pub fn read(names: &[u8], text: &[u8], out: &mut [u8]) -> Reading
-    ensures value { result ≡ readAnswer names.now text.now (length out.old) }
-    ensures out_after { out.new ≡ readOut names.now text.now out.old }
+    ensures value { result ≡ read_answer names.now text.now (length out.old) }
+    ensures out_after { out.new ≡ read_out names.now text.now out.old }
 {
     if !names::good(names) {
         return Reading::Names;

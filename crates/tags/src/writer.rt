@@ -1,10 +1,10 @@
 // The writer: event bytes in, tagged text without blanks out. A scribe, by value, says how far a stream is written, so
 // that it can go on in pieces; `write` takes a whole stream, and judges all of it before it writes.
 ghost use Rattle.std.specs.Prelude.{◌≡◌, ◌&&◌, ◌++◌, ◌+◌, ◌≤◌, length};
-ghost use Rattle.grammar.specs.Feeding.{goesOn};
-ghost use Rattle.grammar.specs.Writing.{writeAnswer, writeOut};
+ghost use Rattle.grammar.specs.Feeding.{goes_on};
+ghost use Rattle.grammar.specs.Writing.{write_answer, write_out};
 ghost use Rattle.names.specs.Words.{spelt};
-ghost use Rattle.tags.specs.Writers.{begin, wrong, written, ended, hasName, tagBytes, tagLength, Writable, openEvent, pointEvent, closeEvent, closeOfEvent, eventStep, spellStep, isFault, givesBy, less_by, followIn, followOf, writeIn, wroteOf, writtenOut};
+ghost use Rattle.tags.specs.Writers.{begin, wrong, written, ended, has_name, tag_bytes, tag_length, Writable, open_event, point_event, close_event, close_of_event, event_step, spell_step, is_fault, gives_by, less_by, follow_in, follow_of, write_in, wrote_of, written_out};
 ghost use Rattle.meaning.specs.Lent.{put_at};
 
 use crate::levels::Levels;
@@ -127,13 +127,13 @@ fn written(levels: Levels, form: Form, name: Word) -> Spelled
 
 // The word is a name that can be written: it has 1 to 16 bytes.
 fn has_name(name: Word) -> bool
-    ensures { result ≡ hasName name }
+    ensures { result ≡ has_name name }
 {
     (0 < name.length) & (name.length < 17)
 }
 
 fn open_event(names: &[u8], scribe: Scribe, label: u64) -> Spelled
-    ensures { result ≡ openEvent names.now scribe label }
+    ensures { result ≡ open_event names.now scribe label }
 {
     let levels = scribe.levels;
     let name = names::name_at(names, label);
@@ -145,7 +145,7 @@ fn open_event(names: &[u8], scribe: Scribe, label: u64) -> Spelled
 }
 
 fn point_event(names: &[u8], scribe: Scribe, label: u64) -> Spelled
-    ensures { result ≡ pointEvent names.now scribe label }
+    ensures { result ≡ point_event names.now scribe label }
 {
     let levels = scribe.levels;
     let name = names::name_at(names, label);
@@ -157,7 +157,7 @@ fn point_event(names: &[u8], scribe: Scribe, label: u64) -> Spelled
 }
 
 fn close_event(names: &[u8], scribe: Scribe) -> Spelled
-    ensures { result ≡ closeEvent names.now scribe }
+    ensures { result ≡ close_event names.now scribe }
 {
     let levels = scribe.levels;
     let name = names::name_at(names, levels.newest() as u64);
@@ -170,7 +170,7 @@ fn close_event(names: &[u8], scribe: Scribe) -> Spelled
 
 // A close that names a label: the newest's.
 fn close_of_event(names: &[u8], scribe: Scribe, label: u64) -> Spelled
-    ensures { result ≡ closeOfEvent names.now scribe label }
+    ensures { result ≡ close_of_event names.now scribe label }
 {
     let levels = scribe.levels;
     if levels.newest() as u64 == label {
@@ -182,7 +182,7 @@ fn close_of_event(names: &[u8], scribe: Scribe, label: u64) -> Spelled
 
 // An event, where byte 65 was not read yet.
 fn event_step(names: &[u8], scribe: Scribe, event: Event) -> Spelled
-    ensures { result ≡ eventStep names.now scribe event }
+    ensures { result ≡ event_step names.now scribe event }
 {
     match event {
         Event::Open(a) => open_event(names, scribe, a),
@@ -196,7 +196,7 @@ fn event_step(names: &[u8], scribe: Scribe, event: Event) -> Spelled
 
 // One event byte. The names are the first 32 lines of the list. After byte 65 nothing goes on.
 pub fn spell(names: &[u8], scribe: Scribe, byte: u8) -> Spelled
-    ensures { result ≡ spellStep names.now scribe byte }
+    ensures { result ≡ spell_step names.now scribe byte }
 {
     if scribe.ended {
         scribe.wrong()
@@ -208,7 +208,7 @@ pub fn spell(names: &[u8], scribe: Scribe, byte: u8) -> Spelled
 // The length of a tag.
 fn tag_length(form: Form, name: Word) -> usize
     requires { name.length ≤ 16 }
-    ensures { result ≡ tagLength form name }
+    ensures { result ≡ tag_length form name }
 {
     match form {
         Form::Opening => 2 + name.length,
@@ -245,8 +245,8 @@ fn put_parts(out: &mut [u8], at: usize, head: &[u8], name: Word, tail: &[u8])
 // A tag.
 fn put_tag(out: &mut [u8], at: usize, form: Form, name: Word)
     requires writable { Writable name }
-    requires name_in_bounds { at + tagLength form name ≤ length out.old }
-    ensures { out.new ≡ put_at at (tagBytes form name) out.old }
+    requires name_in_bounds { at + tag_length form name ≤ length out.old }
+    ensures { out.new ≡ put_at at (tag_bytes form name) out.old }
 {
     match form {
         Form::Opening => put_parts(out, at, b"<", name, b">"),
@@ -257,7 +257,7 @@ fn put_tag(out: &mut [u8], at: usize, form: Form, name: Word)
 
 impl Spelled {
     fn faulty(self) -> bool
-        ensures { result ≡ isFault self.given }
+        ensures { result ≡ is_fault self.given }
     {
         let given = self.given;
         match given {
@@ -270,7 +270,7 @@ impl Spelled {
     // How many bytes it gives.
     fn length(self) -> usize
         requires { Writable self.name }
-        ensures { result ≡ length (givesBy self.given self.name) }
+        ensures { result ≡ length (gives_by self.given self.name) }
     {
         let given = self.given;
         let name = self.name;
@@ -285,8 +285,8 @@ impl Spelled {
 // The bytes that an event gives.
 fn put_spelled(out: &mut [u8], at: usize, spelled: Spelled)
     requires writable { Writable spelled.name }
-    requires name_in_bounds { at + length (givesBy spelled.given spelled.name) ≤ length out.old }
-    ensures { out.new ≡ put_at at (givesBy spelled.given spelled.name) out.old }
+    requires name_in_bounds { at + length (gives_by spelled.given spelled.name) ≤ length out.old }
+    ensures { out.new ≡ put_at at (gives_by spelled.given spelled.name) out.old }
 {
     let given = spelled.given;
     let name = spelled.name;
@@ -319,7 +319,7 @@ impl Space {
 
 // The events, up to the first at fault, without writing their tags.
 fn follow(names: &[u8], scribe: Scribe, events: &[u8], room: usize) -> Followed
-    ensures { result ≡ followOf room (followIn names.now scribe events.now) }
+    ensures { result ≡ follow_of room (follow_in names.now scribe events.now) }
 {
     let mut next = scribe;
     let mut space = Space {
@@ -352,7 +352,7 @@ fn follow(names: &[u8], scribe: Scribe, events: &[u8], room: usize) -> Followed
 impl Followed {
     // The events are a whole stream.
     fn whole(self) -> bool
-        ensures { result ≡ goesOn self.stop && self.next.ended }
+        ensures { result ≡ goes_on self.stop && self.next.ended }
     {
         let stop = self.stop;
         let next = self.next;
@@ -365,8 +365,8 @@ impl Followed {
 
 // The tags of a piece of a stream, from the output's front: up to the first event at fault, or without room for its tag.
 pub fn put_events(names: &[u8], scribe: Scribe, piece: &[u8], out: &mut [u8]) -> Wrote
-    ensures value { result ≡ wroteOf (writeIn names.now scribe (length out.old) piece.now) }
-    ensures out_after { out.new ≡ writtenOut names.now scribe piece.now out.old }
+    ensures value { result ≡ wrote_of (write_in names.now scribe (length out.old) piece.now) }
+    ensures out_after { out.new ≡ written_out names.now scribe piece.now out.old }
 {
     let mut next = scribe;
     let mut taken: usize = 0;
@@ -398,8 +398,8 @@ pub fn put_events(names: &[u8], scribe: Scribe, piece: &[u8], out: &mut [u8]) ->
 
 // A whole stream as tagged text, from the output's front. All of it is judged first: a refusal writes nothing.
 pub fn write(names: &[u8], events: &[u8], out: &mut [u8]) -> Writing
-    ensures value { result ≡ writeAnswer names.now events.now (length out.old) }
-    ensures out_after { out.new ≡ writeOut names.now events.now out.old }
+    ensures value { result ≡ write_answer names.now events.now (length out.old) }
+    ensures out_after { out.new ≡ write_out names.now events.now out.old }
 {
     if !names::good(names) {
         return Writing::Names;

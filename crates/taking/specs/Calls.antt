@@ -1,28 +1,28 @@
 -- What the event call answers, and what it leaves in lent memory, for any input. Definitions only.
 use Rattle.std.specs.Prelude.{Bool, true, false, List, [], ◌∷◌, ◌++◌, ◌≡◌, ℕ, ltb, length, replicate}
 use Rattle.meaning.specs.Table.{Table, table_of}
-use Rattle.meaning.specs.Masks.{accsOf}
+use Rattle.meaning.specs.Masks.{accs_of}
 use Rattle.meaning.specs.Refusals.{Line, first_of}
 use Rattle.meaning.specs.Streams as stream
-use Rattle.meaning.specs.Streams.{openedBy}
-use Rattle.places.specs.Places.{workLength, rowsPart, labelsPart}
-use Rattle.places.specs.Memory.{Memory, memoryIn, open_in, workWords, LabelsIn}
+use Rattle.meaning.specs.Streams.{opened_by}
+use Rattle.places.specs.Places.{work_length, rows_part, labels_part}
+use Rattle.places.specs.Memory.{Memory, memory_in, open_in, work_words, LabelsIn}
 use Rattle.rows.specs.declared.Step.{Step}
 use Rattle.rows.specs.declared.Step.TheVariants as step
-use Rattle.reports.specs.Reports.{reportsOf, left_of, endReports}
-use Rattle.meaning.specs.Lent.{onFront}
-use Rattle.stepping.specs.Stepping.{Stands, stepMemory, leftMemory}
+use Rattle.reports.specs.Reports.{reports_of, left_of, end_reports}
+use Rattle.meaning.specs.Lent.{on_front}
+use Rattle.stepping.specs.Stepping.{Stands, step_memory, left_memory}
 use Rattle.answers.specs.declared.Record.{Record}
 use Rattle.answers.specs.declared.Answer.{Answer}
 use Rattle.answers.specs.declared.Event.{Event}
 use Rattle.answers.specs.declared.Event.TheVariants.{Open, Point, Close, CloseOf, End, Unknown}
 use Rattle.answers.specs.declared.Refusal.TheVariants as why
-use Rattle.answers.specs.Record.{deeperOf, shallowerOf, oneMoreOf, withAlive, finishedOf}
-use Rattle.answers.specs.Bytes.{meaningOf}
-use Rattle.answers.specs.Answers.{refusedOf, taken_of}
+use Rattle.answers.specs.Record.{deeper_of, shallower_of, one_more_of, with_alive, finished_of}
+use Rattle.answers.specs.Bytes.{meaning_of}
+use Rattle.answers.specs.Answers.{refused_of, taken_of}
 use Rattle.judge.specs.declared.Judged.{Judged}
 use Rattle.judge.specs.declared.Judged.TheVariants.{Fine, Refused}
-use Rattle.judge.specs.Judging.{refuses, judgedLines}
+use Rattle.judge.specs.Judging.{refuses, judged_lines}
 
 -- What a call that is taken makes of the record and of work memory, and the reports that it gives.
 pub record After : Type 0 where
@@ -31,38 +31,38 @@ pub record After : Type 0 where
   pub reports : List ℕ
 
 -- Depth and positions after an event.
-abbrev pub stepRecord : stream.Event → Record → Record
-stepRecord (stream.Open a) r = oneMoreOf (deeperOf r)
-stepRecord (stream.Point a) r = oneMoreOf r
-stepRecord stream.Close r = shallowerOf r
+abbrev pub step_record : stream.Event → Record → Record
+step_record (stream.Open a) r = one_more_of (deeper_of r)
+step_record (stream.Point a) r = one_more_of r
+step_record stream.Close r = shallower_of r
 
 -- The abstract state that a record and its work memory stand for: the rows, and the labels of the open levels.
-abbrev pub memoryOf : Record → List ℕ → Memory
-memoryOf r work = memoryIn r.allowed r.depth r.alive (rowsPart r.rows r.allowed work)
+abbrev pub memory_of : Record → List ℕ → Memory
+memory_of r work = memory_in r.allowed r.depth r.alive (rows_part r.rows r.allowed work)
 
-abbrev pub labelsOf : Record → List ℕ → List ℕ
-labelsOf r work = open_in (labelsPart r.rows r.allowed work) r.depth
+abbrev pub labels_of : Record → List ℕ → List ℕ
+labels_of r work = open_in (labels_part r.rows r.allowed work) r.depth
 
 -- Work memory that can be stepped, for a table of n states: its rows are rows, its labels' words those of the open levels.
 pub record Ready (n : ℕ) (r : Record) (work : List ℕ) : Type 0 where
-  pub size : length work ≡ workLength r.rows r.allowed
-  pub rows : Stands n r.rows r.allowed r.depth r.alive (rowsPart r.rows r.allowed work)
-  pub labels : LabelsIn r.depth (labelsPart r.rows r.allowed work)
+  pub size : length work ≡ work_length r.rows r.allowed
+  pub rows : Stands n r.rows r.allowed r.depth r.alive (rows_part r.rows r.allowed work)
+  pub labels : LabelsIn r.depth (labels_part r.rows r.allowed work)
 
 -- An open, point or close: the rows step, decided rows are reported and go, and the labels follow.
 abbrev pub stepped : Table → Record → List ℕ → stream.Event → After
 stepped t r work e =
-    let m = stepMemory t (accsOf t) e r.positions (memoryOf r work) in
+    let m = step_memory t (accs_of t) e r.positions (memory_of r work) in
     record {
-      next = withAlive (length (left_of m.alive)) (stepRecord e r);
-      work = workWords r.rows r.allowed (leftMemory m) (openedBy (labelsOf r work) e);
-      reports = reportsOf m.alive;
+      next = with_alive (length (left_of m.alive)) (step_record e r);
+      work = work_words r.rows r.allowed (left_memory m) (opened_by (labels_of r work) e);
+      reports = reports_of m.alive;
     }
 
 -- The end: every alive row is reported, and every word is 0.
 abbrev pub ended : Table → Record → List ℕ → After
 ended t r work =
-    record { next = finishedOf r; work = replicate (length work) 0; reports = endReports t (memoryOf r work).alive }
+    record { next = finished_of r; work = replicate (length work) 0; reports = end_reports t (memory_of r work).alive }
 
 abbrev pub taking : Table → Record → List ℕ → Event → After
 taking t r work (Open a) = stepped t r work (stream.Open a)
@@ -87,25 +87,25 @@ opens (stream.Open a) = true
 opens (stream.Point a) = false
 opens stream.Close = false
 
-abbrev pub isOpen : Event → Bool
-isOpen (Open a) = true
-isOpen (Point a) = false
-isOpen Close = false
-isOpen (CloseOf a) = false
-isOpen End = false
-isOpen Unknown = false
+abbrev pub is_open : Event → Bool
+is_open (Open a) = true
+is_open (Point a) = false
+is_open Close = false
+is_open (CloseOf a) = false
+is_open End = false
+is_open Unknown = false
 
 -- The sets acc that are given are those of the table, where they are needed.
 pub record AccsIf (t : Table) (needed : Bool) (accs : List ℕ) : Type 0 where
-  pub right : needed ≡ true → accs ≡ accsOf t
+  pub right : needed ≡ true → accs ≡ accs_of t
 
 -- 15: more positions would be alive after the event than rows.
-abbrev pub rowsLines : Record → After → List (Line Judged)
-rowsLines r after = refuses (ltb r.rows after.next.alive) why.Rows ∷ []
+abbrev pub rows_lines : Record → After → List (Line Judged)
+rows_lines r after = refuses (ltb r.rows after.next.alive) why.Rows ∷ []
 
 -- All refusals of an event, in the order of checking.
 abbrev pub lines : List ℕ → Record → List ℕ → ℕ → Event → List (Line Judged)
-lines f r work reports e = judgedLines f r work reports e ++ rowsLines r (taking (table_of f) r work e)
+lines f r work reports e = judged_lines f r work reports e ++ rows_lines r (taking (table_of f) r work e)
 
 -- The new value where nothing is refused, and else the old one.
 abbrev pub unless : {A : Type 0} → Judged → A → A → A
@@ -114,38 +114,38 @@ unless (Refused why) old new = old
 
 abbrev pub answer_of : Judged → Record → After → Answer
 answer_of Fine r after = taken_of after.next (length after.reports)
-answer_of (Refused why) r after = refusedOf r why
+answer_of (Refused why) r after = refused_of r why
 
 ---------------------------------------------------------------- 15, once all others are passed
 
-abbrev pub roomJudged : Record → After → Judged
-roomJudged r after = first_of (rowsLines r after) Fine
+abbrev pub room_judged : Record → After → Judged
+room_judged r after = first_of (rows_lines r after) Fine
 
-abbrev pub roomAnswer : Record → After → Answer
-roomAnswer r after = answer_of (roomJudged r after) r after
+abbrev pub room_answer : Record → After → Answer
+room_answer r after = answer_of (room_judged r after) r after
 
-abbrev pub roomWork : Record → List ℕ → After → List ℕ
-roomWork r work after = unless (roomJudged r after) work after.work
+abbrev pub room_work : Record → List ℕ → After → List ℕ
+room_work r work after = unless (room_judged r after) work after.work
 
-abbrev pub roomReports : Record → List ℕ → After → List ℕ
-roomReports r reports after = unless (roomJudged r after) reports (onFront after.reports reports)
+abbrev pub room_reports : Record → List ℕ → After → List ℕ
+room_reports r reports after = unless (room_judged r after) reports (on_front after.reports reports)
 
 ---------------------------------------------------------------- the event call
 
 -- The first refusal that applies, if any.
-abbrev pub eventJudged : List ℕ → Record → List ℕ → List ℕ → ℕ → Judged
-eventJudged f r work reports byte = first_of (lines f r work (length reports) (meaningOf byte)) Fine
+abbrev pub event_judged : List ℕ → Record → List ℕ → List ℕ → ℕ → Judged
+event_judged f r work reports byte = first_of (lines f r work (length reports) (meaning_of byte)) Fine
 
 -- What the event would make of it all.
-abbrev pub eventAfter : List ℕ → Record → List ℕ → ℕ → After
-eventAfter f r work byte = taking (table_of f) r work (meaningOf byte)
+abbrev pub event_after : List ℕ → Record → List ℕ → ℕ → After
+event_after f r work byte = taking (table_of f) r work (meaning_of byte)
 
-abbrev pub eventAnswer : List ℕ → Record → List ℕ → List ℕ → ℕ → Answer
-eventAnswer f r work reports byte = answer_of (eventJudged f r work reports byte) r (eventAfter f r work byte)
+abbrev pub event_answer : List ℕ → Record → List ℕ → List ℕ → ℕ → Answer
+event_answer f r work reports byte = answer_of (event_judged f r work reports byte) r (event_after f r work byte)
 
-abbrev pub eventWork : List ℕ → Record → List ℕ → List ℕ → ℕ → List ℕ
-eventWork f r work reports byte = unless (eventJudged f r work reports byte) work (eventAfter f r work byte).work
+abbrev pub event_work : List ℕ → Record → List ℕ → List ℕ → ℕ → List ℕ
+event_work f r work reports byte = unless (event_judged f r work reports byte) work (event_after f r work byte).work
 
-abbrev pub eventReports : List ℕ → Record → List ℕ → List ℕ → ℕ → List ℕ
-eventReports f r work reports byte =
-    unless (eventJudged f r work reports byte) reports (onFront (eventAfter f r work byte).reports reports)
+abbrev pub event_reports : List ℕ → Record → List ℕ → List ℕ → ℕ → List ℕ
+event_reports f r work reports byte =
+    unless (event_judged f r work reports byte) reports (on_front (event_after f r work byte).reports reports)

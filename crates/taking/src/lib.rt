@@ -5,17 +5,17 @@
 ghost use Rattle.std.specs.Prelude.{◌≡◌, ◌<◌, ◌≤◌, length};
 ghost use Rattle.meaning.specs.Table.{table_of};
 ghost use Rattle.bodies.specs.Sound.{Sound};
-ghost use Rattle.meaning.specs.Streams.{openedBy};
-ghost use Rattle.meaning.specs.Lent.{onFront};
-ghost use Rattle.places.specs.Places.{rowLength};
-ghost use Rattle.places.specs.Memory.{workWords};
-ghost use Rattle.reports.specs.Reports.{reportsOf, left_of};
-ghost use Rattle.rows.specs.Steps.{eventOf, Can};
-ghost use Rattle.stepping.specs.Stepping.{Counted, Moves, stepMemory, leftMemory, countsOf};
-ghost use Rattle.answers.specs.Bytes.{meaningOf};
+ghost use Rattle.meaning.specs.Streams.{opened_by};
+ghost use Rattle.meaning.specs.Lent.{on_front};
+ghost use Rattle.places.specs.Places.{row_length};
+ghost use Rattle.places.specs.Memory.{work_words};
+ghost use Rattle.reports.specs.Reports.{reports_of, left_of};
+ghost use Rattle.rows.specs.Steps.{event_of, Can};
+ghost use Rattle.stepping.specs.Stepping.{Counted, Moves, step_memory, left_memory, counts_of};
+ghost use Rattle.answers.specs.Bytes.{meaning_of};
 ghost use Rattle.judge.specs.Clear.{Clear};
-ghost use Rattle.taking.specs.Calls.{Ready, AccsIf, opens, isOpen, memoryOf, labelsOf, stepRecord, stepped, ended, step_of, roomAnswer, roomWork, roomReports};
-ghost use Rattle.taking.specs.Calls.{eventAnswer, eventWork, eventReports};
+ghost use Rattle.taking.specs.Calls.{Ready, AccsIf, opens, is_open, memory_of, labels_of, step_record, stepped, ended, step_of, room_answer, room_work, room_reports};
+ghost use Rattle.taking.specs.Calls.{event_answer, event_work, event_reports};
 
 use answers::{Answer, Event, Record, Refusal};
 use judge::Judged;
@@ -24,8 +24,8 @@ use stepping::Counts;
 
 // The record after an event, its alive count apart.
 fn step_record(r: Record, step: Step) -> Record
-    requires { Moves (eventOf step) r.depth × Counted (eventOf step) r.positions }
-    ensures { result ≡ stepRecord (eventOf step) r }
+    requires { Moves (event_of step) r.depth × Counted (event_of step) r.positions }
+    ensures { result ≡ step_record (event_of step) r }
 {
     match step {
         Step::Open(_) => r.deeper().one_more(),
@@ -45,12 +45,12 @@ fn take(
 ) -> Counts
     requires sound { Sound table.now }
     requires ready { Ready (table_of table.now).states r work.old }
-    requires can { Can (table_of table.now) (rowLength r.allowed) r.depth (eventOf step) × Counted (eventOf step) r.positions }
+    requires can { Can (table_of table.now) (row_length r.allowed) r.depth (event_of step) × Counted (event_of step) r.positions }
     requires rows_in_bounds { r.rows < length reports.old }
-    requires work_len_bound { length (left_of (stepMemory (table_of table.now) accs.now (eventOf step) r.positions (memoryOf r work.old)).alive) ≤ r.rows }
-    ensures value { result ≡ countsOf (stepMemory (table_of table.now) accs.now (eventOf step) r.positions (memoryOf r work.old)) }
-    ensures work_after { work.new ≡ workWords r.rows r.allowed (leftMemory (stepMemory (table_of table.now) accs.now (eventOf step) r.positions (memoryOf r work.old))) (openedBy (labelsOf r work.old) (eventOf step)) }
-    ensures reports_after { reports.new ≡ onFront (reportsOf (stepMemory (table_of table.now) accs.now (eventOf step) r.positions (memoryOf r work.old)).alive) reports.old }
+    requires work_len_bound { length (left_of (step_memory (table_of table.now) accs.now (event_of step) r.positions (memory_of r work.old)).alive) ≤ r.rows }
+    ensures value { result ≡ counts_of (step_memory (table_of table.now) accs.now (event_of step) r.positions (memory_of r work.old)) }
+    ensures work_after { work.new ≡ work_words r.rows r.allowed (left_memory (step_memory (table_of table.now) accs.now (event_of step) r.positions (memory_of r work.old))) (opened_by (labels_of r work.old) (event_of step)) }
+    ensures reports_after { reports.new ≡ on_front (reports_of (step_memory (table_of table.now) accs.now (event_of step) r.positions (memory_of r work.old)).alive) reports.old }
 {
     let rows = r.rows as usize;
     let allowed = r.allowed as usize;
@@ -82,12 +82,12 @@ fn step(
 ) -> Answer
     requires sound { Sound table.now }
     requires ready { Ready (table_of table.now).states r work.old }
-    requires can { Can (table_of table.now) (rowLength r.allowed) r.depth (eventOf step) × Counted (eventOf step) r.positions }
+    requires can { Can (table_of table.now) (row_length r.allowed) r.depth (event_of step) × Counted (event_of step) r.positions }
     requires rows_in_bounds { r.rows < length reports.old }
-    requires accs_if { AccsIf (table_of table.now) (opens (eventOf step)) accs.now }
-    ensures value { result ≡ roomAnswer r (stepped (table_of table.now) r work.old (eventOf step)) }
-    ensures work_after { work.new ≡ roomWork r work.old (stepped (table_of table.now) r work.old (eventOf step)) }
-    ensures reports_after { reports.new ≡ roomReports r reports.old (stepped (table_of table.now) r work.old (eventOf step)) }
+    requires accs_if { AccsIf (table_of table.now) (opens (event_of step)) accs.now }
+    ensures value { result ≡ room_answer r (stepped (table_of table.now) r work.old (event_of step)) }
+    ensures work_after { work.new ≡ room_work r work.old (stepped (table_of table.now) r work.old (event_of step)) }
+    ensures reports_after { reports.new ≡ room_reports r reports.old (stepped (table_of table.now) r work.old (event_of step)) }
 {
     let rows = r.rows as usize;
     let allowed = r.allowed as usize;
@@ -107,9 +107,9 @@ fn end(table: &[u8], r: Record, work: &mut [u64], reports: &mut [u32]) -> Answer
     requires sound { Sound table.now }
     requires ready { Ready (table_of table.now).states r work.old }
     requires depth_value { (r.depth ≡ 0) × (r.rows < length reports.old) }
-    ensures value { result ≡ roomAnswer r (ended (table_of table.now) r work.old) }
-    ensures work_after { work.new ≡ roomWork r work.old (ended (table_of table.now) r work.old) }
-    ensures reports_after { reports.new ≡ roomReports r reports.old (ended (table_of table.now) r work.old) }
+    ensures value { result ≡ room_answer r (ended (table_of table.now) r work.old) }
+    ensures work_after { work.new ≡ room_work r work.old (ended (table_of table.now) r work.old) }
+    ensures reports_after { reports.new ≡ room_reports r reports.old (ended (table_of table.now) r work.old) }
 {
     let n = places::rows_length(r.rows as usize, r.allowed as usize);
     stepping::take_end(
@@ -143,10 +143,10 @@ pub fn take_byte(
     byte: u8,
 ) -> Answer
     requires clear { Clear table.now r work.old (length reports.old) }
-    requires accs_if { AccsIf (table_of table.now) (isOpen (meaningOf byte)) accs.now }
-    ensures value { result ≡ eventAnswer table.now r work.old reports.old byte }
-    ensures work_after { work.new ≡ eventWork table.now r work.old reports.old byte }
-    ensures reports_after { reports.new ≡ eventReports table.now r work.old reports.old byte }
+    requires accs_if { AccsIf (table_of table.now) (is_open (meaning_of byte)) accs.now }
+    ensures value { result ≡ event_answer table.now r work.old reports.old byte }
+    ensures work_after { work.new ≡ event_work table.now r work.old reports.old byte }
+    ensures reports_after { reports.new ≡ event_reports table.now r work.old reports.old byte }
 {
     let event = answers::event_of(byte);
     let judged = judge::judge_event(bodies::labels(table), r, work, event);

@@ -5,8 +5,8 @@ use native.Mathlib.Omega.{arith}
 use borrow.Author.Rules.{rules}
 use lib.ListN.{length}
 use Rattle.bodies.proofs.Inside.{byte_inside}
-use Rattle.bodies.specs.Sound.{statesIn, labelsIn}
-use Rattle.meaning.specs.Table.{bodyAt}
+use Rattle.bodies.specs.Sound.{states_in, labels_in}
+use Rattle.meaning.specs.Table.{body_at}
 use Rattle.offsets.proofs.Bounds.{place_same}
 use Rattle.bodies.proofs.in_body.Statement.{statement}
 use Rattle.bodies.proofs.in_body.Tie as tie
@@ -15,7 +15,7 @@ use Rattle.bodies.proofs.in_body.Tie as tie
 place :
     (c : tie.After-body-at) →
     let s = c.before.before.before.before in
-    c.body_at.result ≡ bodyAt (statesIn s.args.table.now) (labelsIn s.args.table.now) s.args.i
+    c.body_at.result ≡ body_at (states_in s.args.table.now) (labels_in s.args.table.now) s.args.i
 place c =
     let s = c.before.before.before.before in
     c.body_at.ensures ∙ place_same c.before.before.byte.ensures c.before.byte2.ensures s.args.i

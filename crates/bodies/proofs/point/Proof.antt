@@ -10,7 +10,7 @@ labels-requires c κs = search rules
 cell-requires : tie.Need-cell-requires
 cell-requires c κs =
     let s = c.before.before in
-    (s.requires.0, record { kind = omega arith; rows = rw c.labels.ensures; row_in = omega (arith, s.requires.1); column-in = omega (arith, s.requires.1) })
+    (s.requires.0, record { kind = omega arith; rows = rw c.labels.ensures; row_in = omega (arith, s.requires.1); column_in = omega (arith, s.requires.1) })
 
 returns : tie.Need-returns
 returns c = rw c.before.labels.ensures at c.cell.ensures

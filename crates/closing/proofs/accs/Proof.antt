@@ -5,15 +5,15 @@ use Prim.Native.Nat.{ℕ, ◌≤◌, ◌-◌}
 use native.Mathlib.Omega.{arith}
 use mathlib.Core.List.{List, ◌++◌}
 use lib.ListN.{replicate, set}
-use Rattle.meaning.specs.Masks.{tabulate, accOf}
+use Rattle.meaning.specs.Masks.{tabulate, acc_of}
 use Rattle.meaning.specs.Table.{table_of}
 use Rattle.meaning.proofs.Folds.{tabulate-more}
-use Rattle.bodies.proofs.Fits.{state-fits}
+use Rattle.bodies.proofs.Fits.{state_fits}
 use Rattle.closing.proofs.accs.Statement.{statement}
 use Rattle.closing.proofs.accs.Tie as tie
 
 abbrev invariant-loop : tie.invariant-loop
-invariant-loop table trees n sets₀ q₀ sets q = (q ≤ (table_of table).states) × (sets ≡ tabulate q (accOf (table_of table) trees) ++ replicate (64 - q) 0)
+invariant-loop table trees n sets₀ q₀ sets q = (q ≤ (table_of table).states) × (sets ≡ tabulate q (acc_of (table_of table) trees) ++ replicate (64 - q) 0)
 
 abbrev decreases-loop : tie.decreases-loop
 decreases-loop table trees n sets₀ q₀ sets q = (table_of table).states - q
@@ -28,10 +28,10 @@ acc-requires : tie.Need-acc-requires invariant-loop decreases-loop
 acc-requires c κs = (c.before.before.before.before.requires, omega arith)
 
 mul-sets : tie.Need-overflow-mul-sets invariant-loop decreases-loop
-mul-sets c = omega (arith, c.before.before.before.before.before.requires.formed.few-states)
+mul-sets c = omega (arith, c.before.before.before.before.before.requires.formed.few_states)
 
 array-write-sets : tie.Need-array-write-sets invariant-loop decreases-loop
-array-write-sets c = omega (arith, c.before.before.before.before.before.requires.formed.few-states)
+array-write-sets c = omega (arith, c.before.before.before.before.before.requires.formed.few_states)
 
 add-q : tie.Need-overflow-add-q invariant-loop decreases-loop
 add-q c = omega arith
@@ -44,9 +44,9 @@ loop-again c =
     let s = c.before.before.before.before.before in
     let l = c.before.before.loop in
     let t = table_of s.args.table.now in
-    let fits = state-fits _ s.requires l.q (omega arith) in (
+    let fits = state_fits _ s.requires l.q (omega arith) in (
       omega arith,
-      ap (λ (xs : List ℕ). set xs l.q c.acc.result) l.invariant.1 ∙ tabulate-more 64 l.q c.acc.result (accOf t s.args.trees) fits c.acc.ensures,
+      ap (λ (xs : List ℕ). set xs l.q c.acc.result) l.invariant.1 ∙ tabulate-more 64 l.q c.acc.result (acc_of t s.args.trees) fits c.acc.ensures,
     )
 
 returns : tie.Need-returns invariant-loop decreases-loop

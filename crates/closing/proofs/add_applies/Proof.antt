@@ -8,8 +8,8 @@ use native.Mathlib.Numerals.{add-one}
 use native.Mathlib.Omega.{arith}
 use Rattle.meaning.specs.Masks.{has, added, upto}
 use Rattle.meaning.specs.Table.{table_of}
-use Rattle.bodies.proofs.Fits.{state-fits, apply-fits}
-use Rattle.masks.proofs.Turns.{turn-added, turn-taken, turn-left}
+use Rattle.bodies.proofs.Fits.{state_fits, apply_fits}
+use Rattle.masks.proofs.Turns.{turn_added, turn_taken, turn_left}
 use Rattle.closing.proofs.add_applies.Statement.{statement}
 use Rattle.closing.proofs.add_applies.Tie as tie
 
@@ -27,7 +27,7 @@ loop-holds : tie.Need-loop-init invariant-loop decreases-loop
 loop-holds c = (omega arith, refl)
 
 holds-requires : tie.Need-holds-requires invariant-loop decreases-loop
-holds-requires c κs = state-fits _ c.before.before.before.before.requires.0 c.before.loop.p (omega arith)
+holds-requires c κs = state_fits _ c.before.before.before.before.requires.0 c.before.loop.p (omega arith)
 
 apply-requires : tie.Need-apply-requires invariant-loop decreases-loop
 apply-requires c κs =
@@ -37,7 +37,7 @@ apply-requires c κs =
 add-requires : tie.Need-add-requires invariant-loop decreases-loop
 add-requires c κs =
     let s = c.before.before.before.before.before.before.before in
-    apply-fits _ s.requires.0 c.apply.result s.args.q c.before.before.before.before.loop.p c.apply.ensures s.requires.1 (omega arith)
+    apply_fits _ s.requires.0 c.apply.result s.args.q c.before.before.before.before.loop.p c.apply.ensures s.requires.1 (omega arith)
 
 add-p : tie.Need-overflow-add-p invariant-loop decreases-loop
 add-p c = omega arith
@@ -53,8 +53,8 @@ loop-again c =
       omega arith,
       rw add-one
           (⊎_elim
-          (λ w. turn-taken F c.before.holds.ensures w.0.taken l.invariant.1 (w.3 ∙ turn-added refl w.1.ensures w.2.ensures))
-          (λ w. turn-left F c.before.holds.ensures w.0.left l.invariant.1 w.1)
+          (λ w. turn_taken F c.before.holds.ensures w.0.taken l.invariant.1 (w.3 ∙ turn_added refl w.1.ensures w.2.ensures))
+          (λ w. turn_left F c.before.holds.ensures w.0.left l.invariant.1 w.1)
           c.if1.branch),
     )
 

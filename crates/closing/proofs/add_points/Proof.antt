@@ -6,8 +6,8 @@ use native.Mathlib.Numerals.{add-one}
 use native.Mathlib.Omega.{arith}
 use Rattle.meaning.specs.Masks.{added, upto}
 use Rattle.meaning.specs.Table.{table_of}
-use Rattle.bodies.proofs.Fits.{point-fits}
-use Rattle.masks.proofs.Turns.{turn-added}
+use Rattle.bodies.proofs.Fits.{point_fits}
+use Rattle.masks.proofs.Turns.{turn_added}
 use Rattle.closing.proofs.add_points.Statement.{statement}
 use Rattle.closing.proofs.add_points.Tie as tie
 
@@ -31,7 +31,7 @@ point-requires c κs =
 add-requires : tie.Need-add-requires invariant-loop decreases-loop
 add-requires c κs =
     let s = c.before.before.before.before.before in
-    point-fits _ s.requires.0 c.point.result s.args.q c.before.before.loop.a c.point.ensures s.requires.1 (omega arith)
+    point_fits _ s.requires.0 c.point.result s.args.q c.before.before.loop.a c.point.ensures s.requires.1 (omega arith)
 
 add_a : tie.Need-overflow-add-a invariant-loop decreases-loop
 add_a c = omega arith
@@ -42,7 +42,7 @@ loop-less c = omega arith
 loop-again : tie.Need-loop-preserved invariant-loop decreases-loop
 loop-again c = (
   omega arith,
-  rw add-one (turn-added c.before.before.before.loop.invariant.1 c.before.point.ensures c.add.ensures),
+  rw add-one (turn_added c.before.before.before.loop.invariant.1 c.before.point.ensures c.add.ensures),
 )
 
 returns : tie.Need-returns invariant-loop decreases-loop

@@ -6,8 +6,8 @@ use native.Mathlib.Numerals.{add-one}
 use native.Mathlib.Omega.{arith}
 use Rattle.meaning.specs.Masks.{added, upto}
 use Rattle.meaning.specs.Table.{table_of}
-use Rattle.bodies.proofs.Fits.{opening-fits}
-use Rattle.masks.proofs.Turns.{turn-added}
+use Rattle.bodies.proofs.Fits.{opening_fits}
+use Rattle.masks.proofs.Turns.{turn_added}
 use Rattle.closing.proofs.openings.Statement.{statement}
 use Rattle.closing.proofs.openings.Tie as tie
 
@@ -27,7 +27,7 @@ opening-requires : tie.Need-opening-requires invariant-loop decreases-loop
 opening-requires c κs = (c.before.before.before.before.requires, omega arith)
 
 add-requires : tie.Need-add-requires invariant-loop decreases-loop
-add-requires c κs = opening-fits _ c.before.before.before.before.before.requires c.opening.result c.before.before.loop.a c.opening.ensures (omega arith)
+add-requires c κs = opening_fits _ c.before.before.before.before.before.requires c.opening.result c.before.before.loop.a c.opening.ensures (omega arith)
 
 add_a : tie.Need-overflow-add-a invariant-loop decreases-loop
 add_a c = omega arith
@@ -38,7 +38,7 @@ loop-less c = omega arith
 loop-again : tie.Need-loop-preserved invariant-loop decreases-loop
 loop-again c = (
   omega arith,
-  rw add-one (turn-added c.before.before.before.loop.invariant.1 c.before.opening.ensures c.add.ensures),
+  rw add-one (turn_added c.before.before.before.loop.invariant.1 c.before.opening.ensures c.add.ensures),
 )
 
 returns : tie.Need-returns invariant-loop decreases-loop

@@ -5,16 +5,16 @@ use Prim.Native.Nat.{ℕ, ◌≤◌, ◌-◌}
 use native.Mathlib.Numerals.{add-one}
 use native.Mathlib.Omega.{arith}
 use mathlib.Core.Logic.{⊎_elim}
-use Rattle.meaning.specs.Masks.{upto, points_of, appliesOf, followOf}
+use Rattle.meaning.specs.Masks.{upto, points_of, applies_of, follow_of}
 use Rattle.meaning.specs.Masks.{has}
 use Rattle.meaning.specs.Table.{table_of}
-use Rattle.bodies.proofs.Fits.{state-fits}
-use Rattle.masks.proofs.Turns.{turn-taken, turn-left}
+use Rattle.bodies.proofs.Fits.{state_fits}
+use Rattle.masks.proofs.Turns.{turn_taken, turn_left}
 use Rattle.closing.proofs.round.Statement.{statement}
 use Rattle.closing.proofs.round.Tie as tie
 
 abbrev invariant-loop : tie.invariant-loop
-invariant-loop table trees x n y₀ q₀ y q = (q ≤ (table_of table).states) × (y ≡ upto q (followOf (table_of table) trees) x)
+invariant-loop table trees x n y₀ q₀ y q = (q ≤ (table_of table).states) × (y ≡ upto q (follow_of (table_of table) trees) x)
 
 abbrev decreases-loop : tie.decreases-loop
 decreases-loop table trees x n y₀ q₀ y q = (table_of table).states - q
@@ -26,7 +26,7 @@ loop-holds : tie.Need-loop-init invariant-loop decreases-loop
 loop-holds c = (omega arith, refl)
 
 holds-requires : tie.Need-holds-requires invariant-loop decreases-loop
-holds-requires c κs = state-fits _ c.before.before.before.before.requires c.before.loop.q (omega arith)
+holds-requires c κs = state_fits _ c.before.before.before.before.requires c.before.loop.q (omega arith)
 
 add-points-requires : tie.Need-add-points-requires invariant-loop decreases-loop
 add-points-requires c κs = (c.before.before.before.before.before.before.requires, omega arith)
@@ -45,13 +45,13 @@ loop-again c =
     let l = c.before.before.before.loop in
     let s = c.before.before.before.before.before.before in
     let t = table_of s.args.table.now in
-    let F : ℕ → ℕ = λ z. appliesOf t s.args.trees l.q (points_of t l.q z) in
+    let F : ℕ → ℕ = λ z. applies_of t s.args.trees l.q (points_of t l.q z) in
     let h = c.before.holds.ensures ∙ ap (λ (z : ℕ). has z l.q) l.invariant.1 in (
       omega arith,
       rw add-one
           (⊎_elim
-          (λ w. turn-taken F h w.0.taken l.invariant.1 (w.3 ∙ w.2.ensures ∙ ap (appliesOf t s.args.trees l.q) w.1.ensures))
-          (λ w. turn-left F h w.0.left l.invariant.1 w.1)
+          (λ w. turn_taken F h w.0.taken l.invariant.1 (w.3 ∙ w.2.ensures ∙ ap (applies_of t s.args.trees l.q) w.1.ensures))
+          (λ w. turn_left F h w.0.left l.invariant.1 w.1)
           c.if1.branch),
     )
 

@@ -8,9 +8,9 @@ use borrow.Rule.Slice.PartMut.{put_mid, take_put}
 use lib.ListN.{length, take, drop, replicate, length-drop}
 use lib.Seq.{length-take-le}
 use Rattle.meaning.specs.Table.{table_of}
-use Rattle.meaning.specs.Masks.{accsOver}
+use Rattle.meaning.specs.Masks.{accs_over}
 use Rattle.judge.proofs.Passed.{StartPassed}
-use Rattle.engine.proofs.Parts.{whole-rest, rest-after}
+use Rattle.engine.proofs.Parts.{whole_rest, rest_after}
 use Rattle.engine.proofs.Starting.{refused-start, taken_start, passed_start}
 use Rattle.engine.proofs.start.Statement.{statement}
 use Rattle.engine.proofs.start.Tie as tie
@@ -48,10 +48,10 @@ passed c =
 -- the rows' words are within work memory
 module _ (c : tie.After-rows-length) where
   abbrev n : ℕ
-  n = c.rows-length.result
+  n = c.rows_length_lem.result
 
   inside : n ≤ length c.before.before.before.before.before.before.before.before.args.work.now
-  inside = omega (arith, c.rows-length.ensures, (passed c.before.before.before).size_is)
+  inside = omega (arith, c.rows_length_lem.ensures, (passed c.before.before.before).size_is)
 
 -- and are lent as they were
 module _ (c : tie.After-clear) where
@@ -75,7 +75,7 @@ accs-requires c κs = (passed c.before).sound
 rows-length-requires : tie.Need-rows-length-requires
 rows-length-requires c κs =
     let p = passed c.before.before in
-    (p.few-rows, p.few-levels)
+    (p.few_rows, p.few_levels)
 
 mul-clear : tie.Need-overflow-mul-clear
 mul-clear c = search (rules, inside c)
@@ -107,8 +107,8 @@ start-memory-requires c κs =
     let l = k.before.before in (
       p.sound,
       (
-        (p.few-rows, p.few-levels, rows_long k ∙ l.rows-length.ensures),
-        l.before.accs.ensures ∙ ap (accsOver t) l.before.before.trees.ensures,
+        (p.few_rows, p.few_levels, rows_long k ∙ l.rows_length_lem.ensures),
+        l.before.accs.ensures ∙ ap (accs_over t) l.before.before.trees.ensures,
       ),
     )
 
@@ -129,10 +129,10 @@ returns-2 c =
     let j = e.before.before in
     let a = j.before.before.before.args in
     let p = passed e in
-    let from : ℕ = l.rows-length.result in
+    let from : ℕ = l.rows_length_lem.result in
     let long : length (take (length a.work.now - from) (drop from a.work.now)) ≡ a.depth - 0 =
-    ap length (whole-rest from a.work.now (inside l)) ∙ length-drop from a.work.now ∙ omega (arith, p.size_is, l.rows-length.ensures) in
-    let labels = rest-after from a.work.now (inside l) k.clear.new.0 ∙ k.clear.ensures ∙ ap (λ (i : ℕ). replicate i 0) long in
+    ap length (whole_rest from a.work.now (inside l)) ∙ length-drop from a.work.now ∙ omega (arith, p.size_is, l.rows_length_lem.ensures) in
+    let labels = rest_after from a.work.now (inside l) k.clear.new.0 ∙ k.clear.ensures ∙ ap (λ (i : ℕ). replicate i 0) long in
     let g = taken_start a.table.now a.rows a.depth a.work.now _ j.judge-start.ensures e.enum_told.given.1 in
     (c.taken.ensures ∙ rw c.before.started.ensures g.0, ap₂ (λ (xs ys : List ℕ). xs ++ ys) c.before.before.before.before.start-memory.ensures labels ∙ g.1)
 

@@ -4,7 +4,7 @@ use mathlib.Core.Bool.{Bool, cond}
 use borrow.Author.Rules.{rules}
 use lib.ListN.{replicate}
 use Rattle.meaning.specs.Table.{table_of}
-use Rattle.meaning.specs.Masks.{accsOf}
+use Rattle.meaning.specs.Masks.{accs_of}
 use Rattle.feeding.proofs.accs_for.Statement.{statement}
 use Rattle.feeding.proofs.accs_for.Tie as tie
 

@@ -3,7 +3,7 @@ use mathlib.Core.Path.{◌≡◌, ap, ◌∙◌}
 use mathlib.Core.List.{[], ◌∷◌}
 use native.Mathlib.Omega.{arith}
 use borrow.Author.Rules.{rules}
-use Rattle.feeding.specs.Feeding.{answerBy}
+use Rattle.feeding.specs.Feeding.{answer_by}
 use Rattle.feeding.proofs.Single.{one_byte}
 use Rattle.feeding.proofs.event.Statement.{statement}
 use Rattle.feeding.proofs.event.Tie as tie
@@ -31,7 +31,7 @@ returns c =
     let a = c.before.before.before.before.before.before.before.before.before.before.before.before.before.before.args in
     let g = c.before.before.before.before.before.before.feed in
     let one = one_byte a.table.now a.«record» a.work.now a.reports.now (0 ∷ []) a.byte (omega arith) in
-    (c.answer.ensures ∙ ap answerBy g.ensures.0 ∙ one.0, (g.ensures.1.0 ∙ one.1.0, g.ensures.1.1.0 ∙ one.1.1))
+    (c.answer.ensures ∙ ap answer_by g.ensures.0 ∙ one.0, (g.ensures.1.0 ∙ one.1.0, g.ensures.1.1.0 ∙ one.1.1))
 
 pub event-spec : {M : Type 1} → statement M
 event-spec =

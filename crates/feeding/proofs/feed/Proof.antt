@@ -4,12 +4,12 @@ use borrow.Author.Rules.{rules}
 use lib.ListN.{length}
 use Rattle.meaning.specs.Table.{table_of}
 use Rattle.judge.specs.Clear.{Clear}
-use Rattle.judge.proofs.Cleared.{lent-clear, clear-passed}
+use Rattle.judge.proofs.Cleared.{lent_clear, clear_passed}
 use Rattle.feeding.specs.declared.Fed.{Fed}
 use Rattle.feeding.specs.declared.Stop.TheVariants.{Room, Refused}
 use Rattle.feeding.specs.Feeding.{State, state_of, begun, stopped}
-use Rattle.feeding.proofs.Opens.{accs-given}
-use Rattle.feeding.proofs.Blocks.{done, block-empty, block-full, block_refused}
+use Rattle.feeding.proofs.Opens.{accs_given}
+use Rattle.feeding.proofs.Blocks.{done, block_empty, block_full, block_refused}
 use Rattle.feeding.proofs.feed.Statement.{statement}
 use Rattle.feeding.proofs.feed.Tie as tie
 
@@ -25,7 +25,7 @@ module _ (c : tie.After-enum-told) where
   clear : let a = start.args in Clear a.table.now a.«record» a.work.now (length a.reports.now)
   clear =
       let a = start.args in
-      lent-clear a.table.now a.«record» a.work.now (length a.reports.now) (sym c.before.before.judge-lent.ensures ∙ c.enum_told.given.1)
+      lent_clear a.table.now a.«record» a.work.now (length a.reports.now) (sym c.before.before.judge-lent.ensures ∙ c.enum_told.given.1)
 
 begun-requires : tie.Need-begun-requires
 begun-requires c κs = search rules
@@ -34,7 +34,7 @@ returns : tie.Need-returns
 returns c =
     let s = c.before.before.before.before.before.before.before in
     let a = s.args in
-    let g = done a.table.now (at s) a.block.now _ _ _ _ (block-empty a.table.now (at s) a.block.now c.before.if1.true) in
+    let g = done a.table.now (at s) a.block.now _ _ _ _ (block_empty a.table.now (at s) a.block.now c.before.if1.true) in
     (c.begun.ensures ∙ g.0, g.1)
 
 begun-requires-2 : tie.Need-begun-requires-2
@@ -47,7 +47,7 @@ returns-2 : tie.Need-returns-2
 returns-2 c =
     let s = c.before.before.before.before.before.before.before.before.before in
     let a = s.args in
-    let g = block-full a.table.now (at s) a.block.now c.before.before.before.if1.false c.before.before.if2.true in
+    let g = block_full a.table.now (at s) a.block.now c.before.before.before.if1.false c.before.before.if2.true in
     (c.stopped.ensures ∙ ap (λ (x : Fed). stopped x Room) c.before.begun2.ensures ∙ g.0, g.1)
 
 judge-lent-requires : tie.Need-judge-lent-requires
@@ -79,13 +79,13 @@ enum_told c = search rules
 accs-for-requires : tie.Need-accs-for-requires
 accs-for-requires c κs =
     let a = (start c).args in
-    (clear-passed a.table.now a.«record» a.work.now (length a.reports.now) (clear c)).sound
+    (clear_passed a.table.now a.«record» a.work.now (length a.reports.now) (clear c)).sound
 
 feed-clear-requires : tie.Need-feed-clear-requires
 feed-clear-requires c κs =
     let k = c.before.before.before.before.before in
     let a = (start k).args in
-    (clear k, accs-given (table_of a.table.now) _ a.block.now c.before.before.before.before.accs-for.ensures)
+    (clear k, accs_given (table_of a.table.now) _ a.block.now c.before.before.before.before.accs-for.ensures)
 
 same-length-2 : tie.Need-same-length-2
 same-length-2 c = search rules

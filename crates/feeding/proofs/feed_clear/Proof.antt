@@ -7,9 +7,9 @@ use borrow.Author.Rules.{rules}
 use borrow.Author.Tests.{not-true, not-false}
 use lib.ListN.{length}
 use Rattle.feeding.specs.declared.Fed.{Fed}
-use Rattle.feeding.specs.Feeding.{State, state_of, begun, fedFrom}
-use Rattle.feeding.proofs.Opens.{accs-at}
-use Rattle.feeding.proofs.Blocks.{Reached, Done, done, reached-all, reached-stop, reached-next, reached-none}
+use Rattle.feeding.specs.Feeding.{State, state_of, begun, fed_from}
+use Rattle.feeding.proofs.Opens.{accs_at}
+use Rattle.feeding.proofs.Blocks.{Reached, Done, done, reached_all, reached_stop, reached_next, reached-none}
 use Rattle.feeding.proofs.feed_clear.Statement.{statement}
 use Rattle.feeding.proofs.feed_clear.Tie as tie
 
@@ -30,12 +30,12 @@ module _ (c : tie.After-begun invariant-loop decreases-loop) where
   first = let a = start.args in state_of c.begun.result a.work.now a.reports.now a.counts.now
 
   -- What is then done is what the call ensures.
-  ensured : (x : Fed) (w p q : List ℕ) → let a = start.args in state_of x w p q ≡ fedFrom a.table.now first a.block.now
+  ensured : (x : Fed) (w p q : List ℕ) → let a = start.args in state_of x w p q ≡ fed_from a.table.now first a.block.now
       → Done a.table.now (state_of (begun a.r) a.work.now a.reports.now a.counts.now) a.block.now x w p q
   ensured x w p q e =
       let a = start.args in
       done a.table.now (state_of (begun a.r) a.work.now a.reports.now a.counts.now) a.block.now x w p q
-      (e ∙ ap (λ (y : Fed). fedFrom a.table.now (state_of y a.work.now a.reports.now a.counts.now) a.block.now) c.begun.ensures)
+      (e ∙ ap (λ (y : Fed). fed_from a.table.now (state_of y a.work.now a.reports.now a.counts.now) a.block.now) c.begun.ensures)
 
 begun-requires : tie.Need-begun-requires invariant-loop decreases-loop
 begun-requires c κs = search rules
@@ -52,7 +52,7 @@ turn-requires : tie.Need-turn-requires invariant-loop decreases-loop
 turn-requires c κs =
     let s = start c.before.before.before.before.before.before in
     let l = c.before.before.before.before.before.loop in
-    (l.invariant.3.going, accs-at s.args.block.now l.i c.before.before.before.before.loop-test.true s.pre.1)
+    (l.invariant.3.going, accs_at s.args.block.now l.i c.before.before.before.before.loop-test.true s.pre.1)
 
 is-going-requires : tie.Need-is-going-requires invariant-loop decreases-loop
 is-going-requires c κs = search rules
@@ -73,7 +73,7 @@ returns c =
     let l = c.before.before.before.before.before.before.before.before.before.before.before.before.before.before.loop in
     let g = c.before.before.before.before.before.before.before.before.turn in
     ensured begins _ _ _ _
-    (reached-stop a.table.now (first begins) a.block.now l.i (state_of l.fed l.work l.reports l.counts) l.invariant.3 c.before.before.before.before.before.before.before.before.before.before.before.before.before.loop-test.true g.result g.new.1.1.1.0 g.new.1.1.1.1.0 g.new.1.1.1.1.1.0 g.ensures
+    (reached_stop a.table.now (first begins) a.block.now l.i (state_of l.fed l.work l.reports l.counts) l.invariant.3 c.before.before.before.before.before.before.before.before.before.before.before.before.before.loop-test.true g.result g.new.1.1.1.0 g.new.1.1.1.1.0 g.new.1.1.1.1.1.0 g.ensures
     (sym c.before.is-going.ensures ∙ not-true _ c.if1.true))
 
 add-i : tie.Need-overflow-add-i invariant-loop decreases-loop
@@ -91,7 +91,7 @@ loop-again c =
       search rules,
       search rules,
       search rules,
-      reached-next a.table.now (first begins) a.block.now l.i (state_of l.fed l.work l.reports l.counts) l.invariant.3 c.before.before.before.before.before.before.before.before.before.before.before.before.before.loop-test.true g.result g.new.1.1.1.0 g.new.1.1.1.1.0 g.new.1.1.1.1.1.0 g.ensures
+      reached_next a.table.now (first begins) a.block.now l.i (state_of l.fed l.work l.reports l.counts) l.invariant.3 c.before.before.before.before.before.before.before.before.before.before.before.before.before.loop-test.true g.result g.new.1.1.1.0 g.new.1.1.1.1.0 g.new.1.1.1.1.1.0 g.ensures
           (sym c.before.is-going.ensures ∙ not-false _ c.if1.false),
     )
 
@@ -110,7 +110,7 @@ returns-2 c =
     let a = (start begins).args in
     let l = c.before.loop in
     ensured begins _ _ _ _
-    (reached-all a.table.now (first begins) a.block.now l.i (state_of l.fed l.work l.reports l.counts) l.invariant.3 c.loop-test.false)
+    (reached_all a.table.now (first begins) a.block.now l.i (state_of l.fed l.work l.reports l.counts) l.invariant.3 c.loop-test.false)
 
 pub feed-clear-spec : {M : Type 1} → statement M
 feed-clear-spec =

@@ -7,11 +7,11 @@ use borrow.Author.Rules.{rules}
 use lib.ListN.{length, take, drop}
 use Rattle.answers.specs.declared.Outcome.{Outcome}
 use Rattle.answers.specs.declared.Outcome.TheVariants as outcome
-use Rattle.judge.proofs.Cleared.{clear-passed}
-use Rattle.taking.specs.Calls.{eventAnswer, eventWork, eventReports}
-use Rattle.taking.proofs.Parts.{whole-rest, rest_put}
-use Rattle.feeding.specs.Feeding.{State, Going, state_of, fedBy, countsBy}
-use Rattle.feeding.proofs.Turns.{Leaves, no-count, no-reports, has_room, turn-called, taken-few, rest-clear}
+use Rattle.judge.proofs.Cleared.{clear_passed}
+use Rattle.taking.specs.Calls.{event_answer, event_work, event_reports}
+use Rattle.taking.proofs.Parts.{whole_rest, rest_put}
+use Rattle.feeding.specs.Feeding.{State, Going, state_of, fed_by, counts_by}
+use Rattle.feeding.proofs.Turns.{Leaves, no_count, no_reports, has_room_lem, turn_called, taken-few, rest_clear}
 use Rattle.feeding.proofs.turn.Statement.{statement}
 use Rattle.feeding.proofs.turn.Tie as tie
 
@@ -33,22 +33,22 @@ module _ (c : tie.After-take-byte) where
   room : s.fed.next.rows < length s.reports - s.fed.told
   room = c.before.before.before.if2.false
 
-  answers : (c.take-byte.result ≡ eventAnswer f s.fed.next s.work (drop s.fed.told s.reports) start.args.byte)
-      × ((c.take-byte.new.1.1.1.0 ≡ eventWork f s.fed.next s.work (drop s.fed.told s.reports) start.args.byte)
-      × (c.take-byte.new.1.1.1.1.0 ≡ eventReports f s.fed.next s.work (drop s.fed.told s.reports) start.args.byte))
-  answers = rw (whole-rest s.fed.told s.reports start.pre.0.within) at c.take-byte.ensures
+  answers : (c.take-byte.result ≡ event_answer f s.fed.next s.work (drop s.fed.told s.reports) start.args.byte)
+      × ((c.take-byte.new.1.1.1.0 ≡ event_work f s.fed.next s.work (drop s.fed.told s.reports) start.args.byte)
+      × (c.take-byte.new.1.1.1.1.0 ≡ event_reports f s.fed.next s.work (drop s.fed.told s.reports) start.args.byte))
+  answers = rw (whole_rest s.fed.told s.reports start.pre.0.within) at c.take-byte.ensures
 
   few : (n : ℕ) → c.take-byte.result.outcome ≡ outcome.Taken n → n ≤ s.fed.next.rows + 1
   few n e =
-      taken-few f s.fed.next s.work (drop s.fed.told s.reports) start.args.byte (rest-clear f s start.pre.0 room)
+      taken-few f s.fed.next s.work (drop s.fed.told s.reports) start.args.byte (rest_clear f s start.pre.0 room)
       c.take-byte.result answers.0 n e
 
   -- What it then leaves, by its outcome.
   leaves : (o : Outcome) → c.take-byte.result.outcome ≡ o
-      → Leaves f s start.args.byte (fedBy s.fed c.take-byte.result.next o) c.take-byte.new.1.1.1.0
-      (take s.fed.told s.reports ++ c.take-byte.new.1.1.1.1.0) (countsBy s.counts s.fed.taken o)
+      → Leaves f s start.args.byte (fed_by s.fed c.take-byte.result.next o) c.take-byte.new.1.1.1.0
+      (take s.fed.told s.reports ++ c.take-byte.new.1.1.1.1.0) (counts_by s.counts s.fed.taken o)
   leaves =
-      turn-called f s start.args.byte (has_room f s start.args.byte c.before.before.before.before.if1.false room)
+      turn_called f s start.args.byte (has_room_lem f s start.args.byte c.before.before.before.before.if1.false room)
       c.take-byte.result c.take-byte.new.1.1.1.0 c.take-byte.new.1.1.1.1.0 answers
 
 stopped-requires : tie.Need-stopped-requires
@@ -57,7 +57,7 @@ stopped-requires c κs = search rules
 returns : tie.Need-returns
 returns c =
     let s = c.before.before.before.before.before.before.before in
-    let g = no-count s.args.table.now (at s) s.args.byte c.before.if1.true in
+    let g = no_count s.args.table.now (at s) s.args.byte c.before.if1.true in
     (c.stopped.ensures ∙ g.0, g.1)
 
 sub-if2 : tie.Need-overflow-sub-if2
@@ -69,7 +69,7 @@ stopped-requires-2 c κs = search rules
 returns-2 : tie.Need-returns-2
 returns-2 c =
     let s = c.before.before.before.before.before.before.before.before in
-    let g = no-reports s.args.table.now (at s) s.args.byte s.requires.0 c.before.before.if1.false c.before.if2.true in
+    let g = no_reports s.args.table.now (at s) s.args.byte s.requires.0 c.before.before.if1.false c.before.if2.true in
     (c.stopped2.ensures ∙ g.0, g.1)
 
 mul-take-byte : tie.Need-overflow-mul-take-byte
@@ -87,8 +87,8 @@ part-take-byte-end c = search rules
 take-byte-requires : tie.Need-take-byte-requires
 take-byte-requires c κs =
     let s = c.before.before.before.before.before.before.before.before.before in
-    rw (whole-rest s.args.fed.told s.args.reports.now s.requires.0.within)
-    (rest-clear s.args.table.now (at s) s.requires.0 c.before.before.if2.false, s.requires.1)
+    rw (whole_rest s.args.fed.told s.args.reports.now s.requires.0.within)
+    (rest_clear s.args.table.now (at s) s.requires.0 c.before.before.if2.false, s.requires.1)
 
 enum-known-outcome : tie.Need-enum-known-outcome
 enum-known-outcome c = search rules
@@ -100,7 +100,7 @@ cast-counts : tie.Need-overflow-cast-counts
 cast-counts c =
     let d = c.before.before.before.before.before.before.before.before in
     let h = few d c.before.outcome2.given.0.0 c.before.outcome2.given.1 in
-    omega (arith, h, (clear-passed (f d) (s d).fed.next (s d).work _ (start d).requires.0.clear).called.few-rows)
+    omega (arith, h, (clear_passed (f d) (s d).fed.next (s d).work _ (start d).requires.0.clear).called.few_rows)
 
 mul-counts : tie.Need-overflow-mul-counts
 mul-counts c =

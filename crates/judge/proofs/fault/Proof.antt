@@ -6,13 +6,13 @@ use Prim.Native.Nat.{◌≤◌}
 use native.Mathlib.Omega.{arith}
 use borrow.Author.Rules.{rules}
 use borrow.Author.Tests.{not-true, not-false}
-use Rattle.judge.specs.Judging.{recordRight}
-use Rattle.judge.proofs.Laws.{within, used-none, used-some, fault-words}
+use Rattle.judge.specs.Judging.{record_right}
+use Rattle.judge.proofs.Laws.{within, used_none, used_some, fault-words}
 use Rattle.judge.proofs.fault.Statement.{statement}
 use Rattle.judge.proofs.fault.Tie as tie
 
 -- the record by itself is in order
-right : (c : tie.Else1) → recordRight c.before.before.before.args.r ≡ true
+right : (c : tie.Else1) → record_right c.before.before.before.args.r ≡ true
 right c = sym c.before.record-right.ensures ∙ not-false _ c.if1.false
 
 record-right-requires : tie.Need-record-right-requires
@@ -41,8 +41,8 @@ returns-2 c =
     let a = d.before.before.before.args in
     let used = c.before.if2.used in
     fault-words a.r a.n a.k a.work.now used _ (right d)
-    (⊎_elim (λ w. used-none a.r.finished used a.r.alive w.0.taken w.1)
-    (λ w. used-some a.r.finished used a.r.alive w.0.left w.1)
+    (⊎_elim (λ w. used_none a.r.finished used a.r.alive w.0.taken w.1)
+    (λ w. used_some a.r.finished used a.r.alive w.0.left w.1)
     c.before.if2.branch)
     c.first-fault.ensures
 

@@ -2,10 +2,10 @@
 use mathlib.Core.List.{◌++◌}
 use mathlib.Core.Path.{sym, ◌∙◌}
 use borrow.Author.Rules.{rules}
-use Rattle.bodies.specs.Sound.{statesIn, labelsIn}
-use Rattle.judge.specs.Judging.{callLines, eventLines, newestWord}
+use Rattle.bodies.specs.Sound.{states_in, labels_in}
+use Rattle.judge.specs.Judging.{call_lines, event_lines, newest_word}
 use Rattle.judge.proofs.Following.{table-stands, call-stands, call_passes}
-use Rattle.judge.proofs.Passed.{call-passed}
+use Rattle.judge.proofs.Passed.{call_passed}
 use Rattle.judge.proofs.judge.Statement.{statement}
 use Rattle.judge.proofs.judge.Tie as tie
 
@@ -33,15 +33,15 @@ judge-event-requires c κs =
     let t = j.before.before in
     let g = t.reading2.given in
     let a = t.before.before.before.before.before.args in
-    let p = call-passed g.0.0 g.0.1.0 a.r a.work.now a.reports (sym j.judge-call.ensures ∙ c.enum-told2.given.1) in
-    (p.few-rows, p.few-levels, p.deep, p.size)
+    let p = call_passed g.0.0 g.0.1.0 a.r a.work.now a.reports (sym j.judge-call.ensures ∙ c.enum-told2.given.1) in
+    (p.few_rows, p.few_levels, p.deep, p.size)
 
 returns : tie.Need-returns
 returns c =
     let d = c.before.before.before in
     let a = d.before.before.before.args in
     let f = a.table.now in
-    table-stands f (callLines (statesIn f) (labelsIn f) a.r a.work.now a.reports ++ eventLines (labelsIn f) a.r (newestWord a.r a.work.now) a.event) _
+    table-stands f (call_lines (states_in f) (labels_in f) a.r a.work.now a.reports ++ event_lines (labels_in f) a.r (newest_word a.r a.work.now) a.event) _
     (sym d.read.ensures ∙ c.before.reading.given.1)
 
 returns-2 : tie.Need-returns-2

@@ -1,7 +1,7 @@
 -- `judge_event` meets its contract, event by event. Assumes nothing.
 use borrow.Author.Rules.{rules}
 use borrow.Author.Tests.{lt-ltb, le-ltb, eq-eqb, ne_eqb}
-use Rattle.judge.specs.Judging.{newestWord}
+use Rattle.judge.specs.Judging.{newest_word}
 use Rattle.judge.proofs.judge_event.Statement.{statement}
 use Rattle.judge.proofs.judge_event.Tie as tie
 
@@ -35,12 +35,12 @@ enum-told-3 c = search rules
 returns : tie.Need-returns
 returns c =
     let a = c.before.before.before.before.before.args in
-    rw c.before.before.event.given.1 (c.judge-open.ensures (newestWord a.r a.work.now))
+    rw c.before.before.event.given.1 (c.judge-open.ensures (newest_word a.r a.work.now))
 
 returns-2 : tie.Need-returns-2
 returns-2 c =
     let a = c.before.before.before.before.before.args in
-    rw c.before.before.event2.given.1 (c.judge-point.ensures (newestWord a.r a.work.now))
+    rw c.before.before.event2.given.1 (c.judge-point.ensures (newest_word a.r a.work.now))
 
 returns-3 : tie.Need-returns-3
 returns-3 c = rw (c.before.before.enum_told.given.1, eq-eqb _ 0 c.if1.true)

@@ -3,9 +3,9 @@ use mathlib.Core.Path.{◌≡◌, sym, ap₂, ◌∙◌}
 use Prim.Native.Nat.{ℕ}
 use borrow.Author.Rules.{rules}
 use Rattle.meaning.specs.Refusals.{first_of}
-use Rattle.bodies.specs.Sound.{statesIn, labelsIn}
+use Rattle.bodies.specs.Sound.{states_in, labels_in}
 use Rattle.table.proofs.Sound.{taken-is-sound}
-use Rattle.judge.specs.Judging.{callLines}
+use Rattle.judge.specs.Judging.{call_lines}
 use Rattle.judge.specs.declared.Judged.TheVariants.{Fine}
 use Rattle.judge.proofs.Following.{table-stands, table-passes}
 use Rattle.judge.proofs.judge_lent.Statement.{statement}
@@ -28,7 +28,7 @@ returns c =
     let d = c.before.before.before in
     let a = d.before.before.before.args in
     let f = a.table.now in
-    table-stands f (callLines (statesIn f) (labelsIn f) a.r a.work.now a.reports) _ (sym d.read.ensures ∙ c.before.reading.given.1)
+    table-stands f (call_lines (states_in f) (labels_in f) a.r a.work.now a.reports) _ (sym d.read.ensures ∙ c.before.reading.given.1)
 
 returns-2 : tie.Need-returns-2
 returns-2 c =
@@ -40,8 +40,8 @@ returns-2 c =
     let read = sym d.read.ensures ∙ g.1 in
     let s = taken-is-sound f g.0.0 g.0.1.0 read in
     c.judge-call.ensures
-    ∙ ap₂ (λ (y z : ℕ). first_of (callLines y z a.r a.work.now a.reports) Fine) s.1 s.2
-    ∙ sym (table-passes f (callLines (statesIn f) (labelsIn f) a.r a.work.now a.reports) g.0.0 g.0.1.0 read)
+    ∙ ap₂ (λ (y z : ℕ). first_of (call_lines y z a.r a.work.now a.reports) Fine) s.1 s.2
+    ∙ sym (table-passes f (call_lines (states_in f) (labels_in f) a.r a.work.now a.reports) g.0.0 g.0.1.0 read)
 
 pub judge-lent-spec : {M : Type 1} → statement M
 judge-lent-spec =

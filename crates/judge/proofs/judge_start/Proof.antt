@@ -5,7 +5,7 @@ use mathlib.Core.Path.{◌≡◌, sym, ◌∙◌}
 use borrow.Author.Rules.{rules}
 use Rattle.meaning.specs.Refusals.{first_of}
 use Rattle.answers.specs.declared.Refusal.TheVariants.{Sizes}
-use Rattle.judge.specs.Judging.{refuses, sizesRight, startLines}
+use Rattle.judge.specs.Judging.{refuses, sizes_right, start_lines}
 use Rattle.judge.specs.declared.Judged.TheVariants as judged
 use Rattle.judge.proofs.Following.{table-stands, start-judged}
 use Rattle.judge.proofs.judge_start.Statement.{statement}
@@ -27,12 +27,12 @@ returns : tie.Need-returns
 returns c =
     let d = c.before.before.before in
     let a = d.before.before.args in
-    table-stands a.table.now (refuses (not (sizesRight a.rows a.allowed a.size)) Sizes ∷ []) _
+    table-stands a.table.now (refuses (not (sizes_right a.rows a.allowed a.size)) Sizes ∷ []) _
     (sym d.read.ensures ∙ c.before.reading.given.1)
 
 -- a file that is taken leaves the sizes
 taken : (c : tie.After-sizes-right) (b : Bool) → c.sizes-right.result ≡ b → let a = c.before.before.before.before.before.args in
-    cond b judged.Fine (judged.Refused Sizes) ≡ first_of (startLines a.table.now a.rows a.allowed a.size) judged.Fine
+    cond b judged.Fine (judged.Refused Sizes) ≡ first_of (start_lines a.table.now a.rows a.allowed a.size) judged.Fine
 taken c b e =
     let g = c.before.enum_told.given in
     let d = c.before.before.before in

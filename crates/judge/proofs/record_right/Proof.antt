@@ -2,7 +2,7 @@
 use mathlib.Core.Logic.{⊎_elim}
 use borrow.Author.Tests.{ltb-true, ltb-false, le-leb, lt-leb}
 use Rattle.answers.specs.declared.Record.{Record}
-use Rattle.judge.proofs.Laws.{Within, right-unfinished, right-at-rest, right-open}
+use Rattle.judge.proofs.Laws.{Within, right_unfinished, right_at_rest, right_open}
 use Rattle.judge.proofs.record_right.Statement.{statement}
 use Rattle.judge.proofs.record_right.Tie as tie
 
@@ -34,17 +34,17 @@ returns c =
     c.if1.branch
 
 returns-2 : tie.Need-returns-2
-returns-2 c = right-unfinished _ (counts c.before.before) c.if4.true
+returns-2 c = right_unfinished _ (counts c.before.before) c.if4.true
 
 returns-3 : tie.Need-returns-3
 returns-3 c =
     let d = c.before.before.before in
-    right-at-rest _ (counts d.before.before) d.if4.false c.before.if5.true
+    right_at_rest _ (counts d.before.before) d.if4.false c.before.if5.true
 
 returns-4 : tie.Need-returns-4
 returns-4 c =
     let d = c.before.before in
-    right-open _ (counts d.before.before) d.if4.false c.if5.false
+    right_open _ (counts d.before.before) d.if4.false c.if5.false
 
 pub record-right-spec : {M : Type 1} → statement M
 record-right-spec = tie.close (tie.spec returns returns-2 returns-3 returns-4)

@@ -4,16 +4,16 @@ use Prim.Native.Nat.{ℕ, ◌<◌}
 use native.Mathlib.Omega.{arith}
 use borrow.Author.Rules.{rules}
 use lib.ListN.{length}
-use Rattle.places.proofs.Labels.{opened-words, closed-words}
+use Rattle.places.proofs.Labels.{opened_words, closed_words}
 use Rattle.rows.specs.declared.Step.{Step}
-use Rattle.rows.specs.Steps.{eventOf}
+use Rattle.rows.specs.Steps.{event_of}
 use Rattle.labels.specs.Fits.{Fits}
 use Rattle.labels.proofs.take_label.Statement.{statement}
 use Rattle.labels.proofs.take_label.Tie as tie
 
 -- What is asked of an event, of the step that it is.
-fits-as : {x y : Step} (n d : ℕ) → x ≡ y → Fits n d (eventOf x) → Fits n d (eventOf y)
-fits-as n d e h = subst (λ (z : Step). Fits n d (eventOf z)) e h
+fits-as : {x y : Step} (n d : ℕ) → x ≡ y → Fits n d (event_of x) → Fits n d (event_of y)
+fits-as n d e h = subst (λ (z : Step). Fits n d (event_of z)) e h
 
 opening : (c : tie.After-known-told) → let s = c.before.before.before.before in
     (c.before.step.given.0.0 < 32) × (s.args.d < length s.args.words.now)
@@ -42,7 +42,7 @@ mul_words : tie.Need-overflow-mul-words
 mul_words c = search rules
 
 slice-write-words : tie.Need-slice-write-words
-slice-write-words c = omega (arith, c.label-at.ensures, (opening c.before).1)
+slice-write-words c = omega (arith, c.label_at_lem.ensures, (opening c.before).1)
 
 enum_told : tie.Need-enum-told
 enum_told c = search rules
@@ -69,7 +69,7 @@ returns c =
     let k = c.before in
     let s = k.before.before.before.before in
     let words = s.args.words.now in
-    rw (k.before.step.given.1, c.label-at.ensures) (opened-words words s.args.d s.requires.0 k.before.step.given.0.0 (opening k).1)
+    rw (k.before.step.given.1, c.label_at_lem.ensures) (opened_words words s.args.d s.requires.0 k.before.step.given.0.0 (opening k).1)
 
 returns-2 : tie.Need-returns-2
 returns-2 c = rw c.enum_told.given.1 c.before.before.before.requires.0.same
@@ -80,7 +80,7 @@ same-length-2 c = search rules
 returns-3 : tie.Need-returns-3
 returns-3 c =
     let s = c.before.before.before.before in
-    rw (c.before.enum-told2.given.1, c.label-at2.ensures) (closed-words s.args.words.now s.args.d s.requires.0 (closing c.before))
+    rw (c.before.enum-told2.given.1, c.label-at2.ensures) (closed_words s.args.words.now s.args.d s.requires.0 (closing c.before))
 
 pub take-label-spec : {M : Type 1} → statement M
 take-label-spec =

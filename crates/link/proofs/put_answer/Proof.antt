@@ -1,7 +1,7 @@
 -- `put_answer` meets its contract. Assumes nothing.
 use mathlib.Core.Path.{sym, ap, ◌∙◌}
 use borrow.Author.Rules.{rules}
-use Rattle.link.specs.Words.{fourWords}
+use Rattle.link.specs.Words.{four_words}
 use Rattle.link.proofs.put_answer.Statement.{statement}
 use Rattle.link.proofs.put_answer.Tie as tie
 
@@ -29,7 +29,7 @@ same_length c = search rules
 returns : tie.Need-returns
 returns c =
     rw c.before.before.before.before.before.before.outcome.given.1
-    (c.before.before.put_four.ensures ∙ ap (fourWords _) c.before.before.before.none.ensures)
+    (c.before.before.put_four.ensures ∙ ap (four_words _) c.before.before.before.none.ensures)
 
 same-length-2 : tie.Need-same-length-2
 same-length-2 c = search rules

@@ -1,7 +1,7 @@
 -- `put_four` meets its contract. Assumes nothing.
 use borrow.Author.Rules.{rules}
-use Rattle.link.specs.Words.{fourWords}
-use Rattle.link.proofs.Writing.{all-written}
+use Rattle.link.specs.Words.{four_words}
+use Rattle.link.proofs.Writing.{all_written}
 use Rattle.link.proofs.put_four.Statement.{statement}
 use Rattle.link.proofs.put_four.Tie as tie
 
@@ -21,7 +21,7 @@ same_length : tie.Need-same-length
 same_length c = search rules
 
 returns : tie.Need-returns
-returns c = all-written c.args.words.now (fourWords c.args.reports c.args.place) c.requires
+returns c = all_written c.args.words.now (four_words c.args.reports c.args.place) c.requires
 
 pub put-four-spec : {M : Type 1} → statement M
 put-four-spec =

@@ -5,8 +5,8 @@ use native.Mathlib.Omega.{arith}
 use lib.ListN.{length-set}
 use mir.Val.{bool_byte}
 use borrow.Author.Rules.{rules}
-use Rattle.link.specs.Words.{recordWords}
-use Rattle.link.proofs.Writing.{all-written}
+use Rattle.link.specs.Words.{record_words}
+use Rattle.link.proofs.Writing.{all_written}
 use Rattle.link.proofs.put_record.Statement.{statement}
 use Rattle.link.proofs.put_record.Tie as tie
 
@@ -42,7 +42,7 @@ same_length c = search rules
 returns : tie.Need-returns
 returns c =
     rw (as_number c.before.args.r.finished)
-    (all-written c.before.args.words.now (recordWords c.before.args.r) c.before.requires)
+    (all_written c.before.args.words.now (record_words c.before.args.r) c.before.requires)
 
 pub put-record-spec : {M : Type 1} → statement M
 put-record-spec =

@@ -3,7 +3,7 @@ use mathlib.Core.Logic.{⊎_elim}
 use mathlib.Core.Path.{◌≡◌, sym, ◌∙◌}
 use borrow.Author.Rules.{rules}
 use borrow.Author.Tests.{lt-ltb, le-ltb}
-use Rattle.link.specs.Words.{recordIn}
+use Rattle.link.specs.Words.{record_in}
 use Rattle.link.proofs.record_in.Statement.{statement}
 use Rattle.link.proofs.record_in.Tie as tie
 
@@ -29,7 +29,7 @@ returns : tie.Need-returns
 returns c =
     let words = c.before.before.before.before.before.before.args.words.now in
     let positions = c.before.before.before.before.if1.positions in
-    let h : positions ≡ (recordIn words).positions = ⊎_elim (λ w. w.1 ∙ sym (rw (lt-ltb _ _ w.0.taken))) (λ w. w.2 ∙ sym (rw (le-ltb _ _ w.0.left))) c.before.before.before.before.if1.branch in
+    let h : positions ≡ (record_in words).positions = ⊎_elim (λ w. w.1 ∙ sym (rw (lt-ltb _ _ w.0.taken))) (λ w. w.2 ∙ sym (rw (le-ltb _ _ w.0.left))) c.before.before.before.before.if1.branch in
     rw h
 
 pub record-in-spec : {M : Type 1} → statement M

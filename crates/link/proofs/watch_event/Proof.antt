@@ -4,7 +4,7 @@ use mathlib.Core.Path.{◌≡◌}
 use borrow.Author.Rules.{rules}
 use lib.ListN.{length}
 use Rattle.link.specs.Linked.{fitting}
-use Rattle.link.proofs.Calling.{misfit, fit, fit-lengths, event-misfit, event-fit}
+use Rattle.link.proofs.Calling.{misfit, fit, fit_lengths, event_misfit, event-fit}
 use Rattle.link.proofs.watch_event.Statement.{statement}
 use Rattle.link.proofs.watch_event.Tie as tie
 
@@ -17,7 +17,7 @@ fitted c =
 lengths : (c : tie.Else1) → let a = c.before.before.before.before.before.before.before.before.before.args in (length a.«record».now ≡ 6) × (length a.answer.now ≡ 4)
 lengths c =
     let a = c.before.before.before.before.before.before.before.before.before.args in
-    fit-lengths a.«record».now a.answer.now (fitted c)
+    fit_lengths a.«record».now a.answer.now (fitted c)
 
 fits-requires : tie.Need-fits-requires
 fits-requires c κs = search rules
@@ -32,7 +32,7 @@ returns : tie.Need-returns
 returns c =
     let a = c.before.before.before.before.before.before.before.before.before.args in
     let h = misfit a.«record».now a.answer.now _ c.before.fits2.ensures c.if1.true in
-    event-misfit a.table.now a.«record».now a.work.now a.reports.now a.byte a.answer.now h
+    event_misfit a.table.now a.«record».now a.work.now a.reports.now a.byte a.answer.now h
 
 record-in-requires : tie.Need-record-in-requires
 record-in-requires c κs = (lengths c.before).0

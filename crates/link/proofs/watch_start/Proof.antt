@@ -4,7 +4,7 @@ use mathlib.Core.Path.{◌≡◌}
 use borrow.Author.Rules.{rules}
 use lib.ListN.{length}
 use Rattle.link.specs.Linked.{fitting}
-use Rattle.link.proofs.Calling.{misfit, fit, fit-lengths, start-misfit, start-fit}
+use Rattle.link.proofs.Calling.{misfit, fit, fit_lengths, start_misfit, start-fit}
 use Rattle.link.proofs.watch_start.Statement.{statement}
 use Rattle.link.proofs.watch_start.Tie as tie
 
@@ -17,7 +17,7 @@ fitted c =
 lengths : (c : tie.Else1) → let a = c.before.before.before.before.before.before.before.before.args in (length a.«record».now ≡ 6) × (length a.answer.now ≡ 4)
 lengths c =
     let a = c.before.before.before.before.before.before.before.before.args in
-    fit-lengths a.«record».now a.answer.now (fitted c)
+    fit_lengths a.«record».now a.answer.now (fitted c)
 
 fits-requires : tie.Need-fits-requires
 fits-requires c κs = search rules
@@ -32,7 +32,7 @@ returns : tie.Need-returns
 returns c =
     let a = c.before.before.before.before.before.before.before.before.args in
     let h = misfit a.«record».now a.answer.now _ c.before.fits2.ensures c.if1.true in
-    start-misfit a.table.now a.rows a.depth a.work.now a.«record».now a.answer.now h
+    start_misfit a.table.now a.rows a.depth a.work.now a.«record».now a.answer.now h
 
 start-requires : tie.Need-start-requires
 start-requires c κs = search rules

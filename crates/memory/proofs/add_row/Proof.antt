@@ -7,10 +7,10 @@ use native.Mathlib.Nat.{add-sub_cancel_left}
 use native.Mathlib.Omega.{arith}
 use lib.ListN.{length}
 use Rattle.meaning.specs.Table.{table_of}
-use Rattle.meaning.specs.Rows.{markRow}
-use Rattle.places.specs.Memory.{Held, rowIn}
-use Rattle.places.proofs.Rows.{next_row, past_first, part_length, put-length}
-use Rattle.memory.proofs.Turns.{copied-length, copied-row, copied-end}
+use Rattle.meaning.specs.Rows.{mark_row}
+use Rattle.places.specs.Memory.{Held, row_in}
+use Rattle.places.proofs.Rows.{next_row, past_first, part_length, put_length}
+use Rattle.memory.proofs.Turns.{copied_length, copied_row, copied-end}
 use Rattle.memory.proofs.add_row.Statement.{statement}
 use Rattle.memory.proofs.add_row.Tie as tie
 
@@ -26,7 +26,7 @@ inside : (c : tie.After-slice-known2) → let a = c.before.before.before.before.
 inside c =
     let s = c.before.before.before.before.before.before in
     let a = s.args in
-    omega (arith, fits s, copied-length a.w a.r a.words.now _ (fits s) c.before.before.copy-words.ensures)
+    omega (arith, fits s, copied_length a.w a.r a.words.now _ (fits s) c.before.before.copy-words.ensures)
 
 mul_at : tie.Need-overflow-mul-at
 mul_at c = omega (arith, fits c.before.before)
@@ -55,27 +55,27 @@ mark-row-requires : tie.Need-mark-row-requires
 mark-row-requires c κs =
     let s = c.before.before.before.before.before.before.before in
     let a = s.args in
-    (s.requires.0, rw (add-sub_cancel_left (a.r * a.w) a.w, copied-row a.w a.r a.words.now _ (fits s) c.before.before.before.copy-words.ensures) s.requires.1.0)
+    (s.requires.0, rw (add-sub_cancel_left (a.r * a.w) a.w, copied_row a.w a.r a.words.now _ (fits s) c.before.before.before.copy-words.ensures) s.requires.1.0)
 
 same_length : tie.Need-same-length
 same_length c =
     let k = c.before.before.before.before in
     let s = k.before.before.before.before.before.before in
     let a = s.args in
-    let g = c.before.before.mark-row in
+    let g = c.before.before.mark_row_lem in
     let last = k.before.before.copy-words.new.0 in
     let e = add-sub_cancel_left (a.r * a.w) a.w in
-    rw e (put-length last g.new.0 (a.r * a.w) a.w (inside k) ((rw e at g.auto.0) ∙ part_length last (a.r * a.w) a.w (inside k)) ∙ copied-length a.w a.r a.words.now last (fits s) k.before.before.copy-words.ensures)
+    rw e (put_length last g.new.0 (a.r * a.w) a.w (inside k) ((rw e at g.auto.0) ∙ part_length last (a.r * a.w) a.w (inside k)) ∙ copied_length a.w a.r a.words.now last (fits s) k.before.before.copy-words.ensures)
 
 returns : tie.Need-returns
 returns c =
     let k = c.before.before.before.before in
     let s = k.before.before.before.before.before.before in
     let a = s.args in
-    let g = c.before.before.mark-row in
+    let g = c.before.before.mark_row_lem in
     let last = k.before.before.copy-words.new.0 in
     let e = add-sub_cancel_left (a.r * a.w) a.w in
-    let f : List ℕ → Held = λ row. record { position = a.position; row = markRow (table_of a.table.now) (rowIn a.d row) } in
+    let f : List ℕ → Held = λ row. record { position = a.position; row = mark_row (table_of a.table.now) (row_in a.d row) } in
     rw e (copied-end a.w a.r a.words.now last (fits s) k.before.before.copy-words.ensures f g.new.0 (rw e at g.ensures))
 
 pub add-row-spec : {M : Type 1} → statement M

@@ -9,10 +9,10 @@ use native.Mathlib.Omega.{arith}
 use lib.ListN.{length, drop}
 use lib.Seq.{paste}
 use Rattle.places.specs.Places.{row_of}
-use Rattle.places.specs.Memory.{rowIn}
-use Rattle.rows.specs.Steps.{isDecided}
-use Rattle.places.proofs.Rows.{row_fits, part_length, put-length}
-use Rattle.memory.proofs.Turns.{Closed, closed-start, closed-yes, closed-no, closed-end, copied-onto, row_in, row_words}
+use Rattle.places.specs.Memory.{row_in}
+use Rattle.rows.specs.Steps.{is_decided}
+use Rattle.places.proofs.Rows.{row_fits, part_length, put_length}
+use Rattle.memory.proofs.Turns.{Closed, closed_start, closed_yes, closed_no, closed-end, copied_onto, row_in_lem, row_words_lem}
 use Rattle.memory.proofs.close_up.Statement.{statement}
 use Rattle.memory.proofs.close_up.Tie as tie
 
@@ -28,11 +28,11 @@ module _ (c : tie.In-loop invariant-loop decreases-loop) where
   inside = row_fits c.before.before.before.args.n _ _ _ (omega arith) (omega (arith, c.before.loop.invariant.len, c.before.before.before.requires.0.fits))
 
   down : c.before.loop.left * c.before.before.before.args.w ≤ c.before.loop.r * c.before.before.before.args.w
-  down = mul-le-mul_right _ c.before.loop.invariant.left-max
+  down = mul-le-mul_right _ c.before.loop.invariant.left_max
 
 -- What the call told of the row, as it was at entry.
 told : (c : tie.After-is-left invariant-loop decreases-loop) → let i = c.before.before.before in let a = i.before.before.before.args in
-    c.is-left.result ≡ not (isDecided (rowIn a.d (row_of a.w i.before.loop.r a.words.now)))
+    c.is-left.result ≡ not (is_decided (row_in a.d (row_of a.w i.before.loop.r a.words.now)))
 told c =
     let i = c.before.before.before in
     let a = i.before.before.before.args in
@@ -49,14 +49,14 @@ moved c =
     ⊎_elim
     (λ x. x.5 ∙ x.2.ensures)
     (λ x.
-    let k : l.left ≡ l.r = omega (arith, l.invariant.left-max) in
-    x.1 ∙ sym (rw k (copied-onto l.words (l.r * a.w) a.w)))
+    let k : l.left ≡ l.r = omega (arith, l.invariant.left_max) in
+    x.1 ∙ sym (rw k (copied_onto l.words (l.r * a.w) a.w)))
     c.if2.branch
 
 -- The words that are made 0.
 module _ (c : tie.After-loop invariant-loop decreases-loop) where
   all : c.before.loop.left * c.before.before.before.args.w ≤ c.before.before.before.args.n * c.before.before.before.args.w
-  all = mul-le-mul_right c.before.before.before.args.w (omega (arith, c.before.loop.invariant.left-max, c.before.loop.invariant.r-max))
+  all = mul-le-mul_right c.before.before.before.args.w (omega (arith, c.before.loop.invariant.left_max, c.before.loop.invariant.r_max))
 
   within : c.before.before.before.args.n * c.before.before.before.args.w ≤ length c.before.loop.words
   within = omega (arith, c.before.loop.invariant.len, c.before.before.before.requires.0.fits)
@@ -65,7 +65,7 @@ module _ (c : tie.After-loop invariant-loop decreases-loop) where
   whole = omega (arith, all, within)
 
 loop-holds : tie.Need-loop-init invariant-loop decreases-loop
-loop-holds c = closed-start _ _ _ _
+loop-holds c = closed_start _ _ _ _
 
 mul-from : tie.Need-overflow-mul-from invariant-loop decreases-loop
 mul-from c = omega (arith, inside c)
@@ -91,7 +91,7 @@ is-left-requires c κs =
     let s = i.before.before.before in
     let a = s.args in
     let l = i.before.loop in
-    rw (add-sub_cancel_left (l.r * a.w) a.w) (row_in 64 a.w a.d a.n l.r l.words a.words.now s.requires.0 i.loop-test.true l.invariant.back)
+    rw (add-sub_cancel_left (l.r * a.w) a.w) (row_in_lem 64 a.w a.d a.n l.r l.words a.words.now s.requires.0 i.loop-test.true l.invariant.back)
 
 mul-copy-words : tie.Need-overflow-mul-copy-words invariant-loop decreases-loop
 mul-copy-words c =
@@ -119,8 +119,8 @@ loop-again c =
     let a = s.args in
     let l = i.before.loop in
     ⊎_elim
-    (λ x. rw (x.2, moved (record { before = record { before = c.before; if1 = x.0 }; if2 = x.1 }), x.3) (closed-yes a.w a.d a.n a.words.now l.words l.r l.left l.invariant i.loop-test.true (inside i) _ (told c.before) (row_words 64 a.w a.d a.n l.r a.words.now s.requires.0 i.loop-test.true) x.0.taken))
-    (λ x. rw (x.1, x.2) (closed-no a.w a.d a.n a.words.now l.words l.r l.left l.invariant i.loop-test.true (inside i) _ (told c.before) x.0.left))
+    (λ x. rw (x.2, moved (record { before = record { before = c.before; if1 = x.0 }; if2 = x.1 }), x.3) (closed_yes a.w a.d a.n a.words.now l.words l.r l.left l.invariant i.loop-test.true (inside i) _ (told c.before) (row_words_lem 64 a.w a.d a.n l.r a.words.now s.requires.0 i.loop-test.true) x.0.taken))
+    (λ x. rw (x.1, x.2) (closed_no a.w a.d a.n a.words.now l.words l.r l.left l.invariant i.loop-test.true (inside i) _ (told c.before) x.0.left))
     c.if1.branch
 
 mul-clear : tie.Need-overflow-mul-clear invariant-loop decreases-loop
@@ -150,7 +150,7 @@ same_length c =
     let a = e.before.before.before.args in
     let l = e.before.loop in
     let g = c.before.before.clear in
-    put-length l.words g.new.0 (l.left * a.w) (a.n * a.w - l.left * a.w) (whole e) (g.auto.0 ∙ part_length l.words (l.left * a.w) (a.n * a.w - l.left * a.w) (whole e))
+    put_length l.words g.new.0 (l.left * a.w) (a.n * a.w - l.left * a.w) (whole e) (g.auto.0 ∙ part_length l.words (l.left * a.w) (a.n * a.w - l.left * a.w) (whole e))
     ∙ l.invariant.len
 
 returns : tie.Need-returns invariant-loop decreases-loop
@@ -160,7 +160,7 @@ returns c =
     let a = s.args in
     let l = e.before.loop in
     let g = c.before.before.clear in
-    let q : l.r ≡ a.n = omega (arith, l.invariant.r-max) in
+    let q : l.r ≡ a.n = omega (arith, l.invariant.r_max) in
     let i = rw q at l.invariant in
     (i.count, rw (g.ensures, part_length l.words (l.left * a.w) (a.n * a.w - l.left * a.w) (whole e)) (closed-end a.w a.d a.n a.words.now s.requires.0.fits l.words l.left i))
 

@@ -8,16 +8,16 @@ use native.Mathlib.Omega.{arith}
 use lib.ListN.{length}
 use Rattle.meaning.specs.Table.{table_of}
 use Rattle.places.specs.Places.{row_of}
-use Rattle.places.specs.Memory.{Held, rowIn, heldsIn}
-use Rattle.rows.specs.Steps.{eventOf, stepRow, onRow, isDecided}
-use Rattle.reports.specs.Reports.{leftOver}
+use Rattle.places.specs.Memory.{Held, row_in, helds_in}
+use Rattle.rows.specs.Steps.{event_of, step_row, on_row, is_decided}
+use Rattle.reports.specs.Reports.{left_over}
 use Rattle.places.proofs.Rows.{each_map, row_fits}
-use Rattle.memory.proofs.Turns.{Counted, counted_start, counted-yes, counted-no, row_in, row-can}
+use Rattle.memory.proofs.Turns.{Counted, counted_start, counted_yes, counted_no, row_in_lem, row-can}
 use Rattle.memory.proofs.count_alive.Statement.{statement}
 use Rattle.memory.proofs.count_alive.Tie as tie
 
 abbrev invariant-loop : tie.invariant-loop
-invariant-loop words table accs step w d n count₀ r₀ count r = Counted (onRow (stepRow (table_of table) accs (eventOf step))) w d n words count r
+invariant-loop words table accs step w d n count₀ r₀ count r = Counted (on_row (step_row (table_of table) accs (event_of step))) w d n words count r
 
 abbrev decreases-loop : tie.decreases-loop
 decreases-loop words table accs step w d n count₀ r₀ count r = n - r
@@ -27,7 +27,7 @@ inside c = row_fits c.before.before.before.before.args.n _ _ _ (omega arith) c.b
 
 -- What the call told of the row.
 told : (c : tie.After-stays-after invariant-loop decreases-loop) → let i = c.before.before in let s = i.before.before.before.before in
-    c.Stays-after.result ≡ not (isDecided (stepRow (table_of s.args.table.now) s.args.accs.now (eventOf s.args.step) (rowIn s.args.d (row_of s.args.w i.before.loop.r s.args.words.now))))
+    c.Stays-after.result ≡ not (is_decided (step_row (table_of s.args.table.now) s.args.accs.now (event_of s.args.step) (row_in s.args.d (row_of s.args.w i.before.loop.r s.args.words.now))))
 told c =
     let i = c.before.before in
     let s = i.before.before.before.before in
@@ -64,8 +64,8 @@ stays-after-requires c κs =
     rw (add-sub_cancel_left (l.r * s.args.w) s.args.w) (
       s.requires.0,
       (
-        row_in t.states s.args.w s.args.d s.args.n l.r words words s.requires.1.0 i.loop-test.true refl,
-        row-can s.args.w s.args.d l.r words (inside i) t (eventOf s.args.step) s.requires.1.1.1,
+        row_in_lem t.states s.args.w s.args.d s.args.n l.r words words s.requires.1.0 i.loop-test.true refl,
+        row-can s.args.w s.args.d l.r words (inside i) t (event_of s.args.step) s.requires.1.1.1,
       ),
     )
 
@@ -83,10 +83,10 @@ loop-again c =
     let i = c.before.before.before in
     let s = i.before.before.before.before in
     let l = i.before.loop in
-    let f : Held → Held = onRow (stepRow (table_of s.args.table.now) s.args.accs.now (eventOf s.args.step)) in
+    let f : Held → Held = on_row (step_row (table_of s.args.table.now) s.args.accs.now (event_of s.args.step)) in
     ⊎_elim
-    (λ x. rw x.1 (counted-yes f s.args.w s.args.d s.args.n s.args.words.now l.count l.r l.invariant i.loop-test.true _ (told c.before) x.0.taken))
-    (λ x. rw x.1 (counted-no f s.args.w s.args.d s.args.n s.args.words.now l.count l.r l.invariant i.loop-test.true _ (told c.before) x.0.left))
+    (λ x. rw x.1 (counted_yes f s.args.w s.args.d s.args.n s.args.words.now l.count l.r l.invariant i.loop-test.true _ (told c.before) x.0.taken))
+    (λ x. rw x.1 (counted_no f s.args.w s.args.d s.args.n s.args.words.now l.count l.r l.invariant i.loop-test.true _ (told c.before) x.0.left))
     c.if1.branch
 
 returns : tie.Need-returns invariant-loop decreases-loop
@@ -94,8 +94,8 @@ returns c =
     let s = c.before.before.before.before in
     let l = c.before.loop in
     let q : l.r ≡ s.args.n = omega arith in
-    let f : Held → Held = onRow (stepRow (table_of s.args.table.now) s.args.accs.now (eventOf s.args.step)) in
-    rw q at l.invariant.counted ∙ ap length (sym (each_map leftOver f (heldsIn s.args.w s.args.d s.args.n s.args.words.now)))
+    let f : Held → Held = on_row (step_row (table_of s.args.table.now) s.args.accs.now (event_of s.args.step)) in
+    rw q at l.invariant.counted ∙ ap length (sym (each_map left_over f (helds_in s.args.w s.args.d s.args.n s.args.words.now)))
 
 pub count-alive-spec : {M : Type 1} → statement M
 count-alive-spec =

@@ -1,8 +1,8 @@
 -- `new_stays` meets its contract. Assumes nothing.
 use Rattle.meaning.specs.Table.{table_of}
-use Rattle.places.specs.Memory.{rowIn}
-use Rattle.rows.specs.Steps.{eventOf}
-use Rattle.memory.proofs.Turns.{next-in-as, mark-in-as, new-stays-as}
+use Rattle.places.specs.Memory.{row_in}
+use Rattle.rows.specs.Steps.{event_of}
+use Rattle.memory.proofs.Turns.{next_in_as, mark_in_as, new-stays-as}
 use borrow.Author.Rules.{rules}
 use Rattle.memory.proofs.new_stays.Statement.{statement}
 use Rattle.memory.proofs.new_stays.Tie as tie
@@ -13,7 +13,7 @@ next-state-requires c κs = search rules
 mark-requires : tie.Need-mark-requires
 mark-requires c κs =
     let s = c.before.before.before in
-    (s.requires.0, next-in-as s.requires.0.formed _ _ _ s.requires.1.0 (eventOf s.args.step) s.requires.1.1 _ c.next-state.ensures)
+    (s.requires.0, next_in_as s.requires.0.formed _ _ _ s.requires.1.0 (event_of s.args.step) s.requires.1.1 _ c.next-state.ensures)
 
 stays-requires : tie.Need-stays-requires
 stays-requires c κs =
@@ -23,8 +23,8 @@ stays-requires c κs =
         s.requires.1.0,
         (
           s.requires.1.1,
-          mark-in-as s.requires.0.formed _ _ c.mark.ensures
-              (next-in-as s.requires.0.formed _ _ _ s.requires.1.0 (eventOf s.args.step) s.requires.1.1 _ c.before.next-state.ensures),
+          mark_in_as s.requires.0.formed _ _ c.mark.ensures
+              (next_in_as s.requires.0.formed _ _ _ s.requires.1.0 (event_of s.args.step) s.requires.1.1 _ c.before.next-state.ensures),
         ),
       ),
     )
@@ -32,7 +32,7 @@ stays-requires c κs =
 returns : tie.Need-returns
 returns c =
     let a = c.before.before.before.before.before.args in
-    new-stays-as (table_of a.table.now) a.accs.now (eventOf a.step) (rowIn a.d a.row.now) _ _ _ c.before.before.next-state.ensures c.before.mark.ensures c.stays.ensures
+    new-stays-as (table_of a.table.now) a.accs.now (event_of a.step) (row_in a.d a.row.now) _ _ _ c.before.before.next-state.ensures c.before.mark.ensures c.stays.ensures
 
 pub new-stays-spec : {M : Type 1} → statement M
 new-stays-spec = tie.close (tie.spec next-state-requires mark-requires stays-requires returns)

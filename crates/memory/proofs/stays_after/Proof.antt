@@ -1,8 +1,8 @@
 -- `stays_after` meets its contract. Assumes nothing.
 use Rattle.meaning.specs.Table.{table_of}
-use Rattle.places.specs.Memory.{rowIn}
-use Rattle.rows.specs.Steps.{eventOf}
-use Rattle.memory.proofs.Turns.{next-in-as, stays-as}
+use Rattle.places.specs.Memory.{row_in}
+use Rattle.rows.specs.Steps.{event_of}
+use Rattle.memory.proofs.Turns.{next_in_as, stays_as}
 use borrow.Author.Rules.{rules}
 use Rattle.memory.proofs.stays_after.Statement.{statement}
 use Rattle.memory.proofs.stays_after.Tie as tie
@@ -13,12 +13,12 @@ next-state-requires c κs = search rules
 stays-requires : tie.Need-stays-requires
 stays-requires c κs =
     let s = c.before.before.before in
-    (s.requires.0, (s.requires.1.0, (s.requires.1.1, next-in-as s.requires.0.formed _ _ _ s.requires.1.0 (eventOf s.args.step) s.requires.1.1 _ c.next-state.ensures)))
+    (s.requires.0, (s.requires.1.0, (s.requires.1.1, next_in_as s.requires.0.formed _ _ _ s.requires.1.0 (event_of s.args.step) s.requires.1.1 _ c.next-state.ensures)))
 
 returns : tie.Need-returns
 returns c =
     let a = c.before.before.before.before.args in
-    stays-as (table_of a.table.now) a.accs.now (eventOf a.step) (rowIn a.d a.row.now) _ _ c.before.next-state.ensures c.stays.ensures
+    stays_as (table_of a.table.now) a.accs.now (event_of a.step) (row_in a.d a.row.now) _ _ c.before.next-state.ensures c.stays.ensures
 
 pub stays-after-spec : {M : Type 1} → statement M
 stays-after-spec = tie.close (tie.spec next-state-requires stays-requires returns)

@@ -6,15 +6,15 @@ use native.Mathlib.Nat.{add-sub_cancel_left}
 use native.Mathlib.Omega.{arith}
 use lib.ListN.{length, drop}
 use Rattle.meaning.specs.Table.{table_of}
-use Rattle.places.specs.Memory.{Held, heldsIn, rowWords}
-use Rattle.rows.specs.Steps.{eventOf, stepRow, onRow}
+use Rattle.places.specs.Memory.{Held, helds_in, row_words}
+use Rattle.rows.specs.Steps.{event_of, step_row, on_row}
 use Rattle.places.proofs.Rows.{each_map, row_fits, part_length}
-use Rattle.memory.proofs.Turns.{Stepped, stepped_start, stepped-rest, stepped-next, row_in, row-can}
+use Rattle.memory.proofs.Turns.{Stepped, stepped_start, stepped_rest, stepped-next, row_in_lem, row-can}
 use Rattle.memory.proofs.step_rows.Statement.{statement}
 use Rattle.memory.proofs.step_rows.Tie as tie
 
 abbrev invariant-loop : tie.invariant-loop
-invariant-loop words₀ table accs step w d n r₀ words r = Stepped (λ (h : Held). rowWords w (onRow (stepRow (table_of table) accs (eventOf step)) h)) w d n words₀ words r
+invariant-loop words₀ table accs step w d n r₀ words r = Stepped (λ (h : Held). row_words w (on_row (step_row (table_of table) accs (event_of step)) h)) w d n words₀ words r
 
 abbrev decreases-loop : tie.decreases-loop
 decreases-loop words₀ table accs step w d n r₀ words r = n - r
@@ -24,7 +24,7 @@ module _ (c : tie.In-loop invariant-loop decreases-loop) where
   inside = row_fits c.before.before.before.before.args.n _ _ _ (omega arith) (omega (arith, c.before.loop.invariant.len, c.before.before.before.before.requires.1.0.fits))
 
   rest : drop (c.before.loop.r * c.before.before.before.before.args.w) c.before.loop.words ≡ drop (c.before.loop.r * c.before.before.before.before.args.w) c.before.before.before.before.args.words.now
-  rest = stepped-rest _ _ _ _ _ c.before.loop.words c.before.loop.r c.before.loop.invariant
+  rest = stepped_rest _ _ _ _ _ c.before.loop.words c.before.loop.r c.before.loop.invariant
 
 loop-holds : tie.Need-loop-init invariant-loop decreases-loop
 loop-holds c = stepped_start _ _ _ _ _
@@ -56,8 +56,8 @@ step-row-requires c κs =
     rw (add-sub_cancel_left (l.r * s.args.w) s.args.w) (
       s.requires.0,
       (
-        row_in t.states s.args.w s.args.d s.args.n l.r l.words s.args.words.now s.requires.1.0 i.loop-test.true (rest i),
-        row-can s.args.w s.args.d l.r l.words (inside i) t (eventOf s.args.step) s.requires.1.1.1,
+        row_in_lem t.states s.args.w s.args.d s.args.n l.r l.words s.args.words.now s.requires.1.0 i.loop-test.true (rest i),
+        row-can s.args.w s.args.d l.r l.words (inside i) t (event_of s.args.step) s.requires.1.1.1,
       ),
     )
 
@@ -87,9 +87,9 @@ returns c =
     let s = c.before.before.before.before in
     let l = c.before.loop in
     let q : l.r ≡ s.args.n = omega arith in
-    let f : Held → Held = onRow (stepRow (table_of s.args.table.now) s.args.accs.now (eventOf s.args.step)) in
+    let f : Held → Held = on_row (step_row (table_of s.args.table.now) s.args.accs.now (event_of s.args.step)) in
     let i = rw q at l.invariant.front in
-    i ∙ ap (λ (xs : List ℕ). xs ++ drop (s.args.n * s.args.w) s.args.words.now) (sym (each_map (rowWords s.args.w) f (heldsIn s.args.w s.args.d s.args.n s.args.words.now)))
+    i ∙ ap (λ (xs : List ℕ). xs ++ drop (s.args.n * s.args.w) s.args.words.now) (sym (each_map (row_words s.args.w) f (helds_in s.args.w s.args.d s.args.n s.args.words.now)))
 
 pub step-rows-spec : {M : Type 1} → statement M
 step-rows-spec =

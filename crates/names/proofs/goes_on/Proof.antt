@@ -5,18 +5,18 @@ use Prim.Native.Nat.{ℕ}
 use borrow.Author.Rules.{rules}
 use borrow.Author.Tests.{ne_eqb}
 use lib.Dec.{eqb, ltb}
-use Rattle.grammar.specs.Bytes.{classOf}
+use Rattle.grammar.specs.Bytes.{class_of}
 use Rattle.names.specs.declared.Word.{Word}
-use Rattle.names.specs.Words.{goesOnBy}
-use Rattle.names.proofs.Classes.{class-letter, class-name}
+use Rattle.names.specs.Words.{goes_on_by}
+use Rattle.names.proofs.Classes.{class_letter, class_name}
 use Rattle.names.proofs.goes_on.Statement.{statement}
 use Rattle.names.proofs.goes_on.Tie as tie
 
-begins-by : (w : Word) (b class : ℕ) → class ≡ classOf b → w.length ≡ 0 → eqb class 2 ≡ goesOnBy w b
-begins-by w b class e z = rw (e, z) (class-letter b)
+begins-by : (w : Word) (b class : ℕ) → class ≡ class_of b → w.length ≡ 0 → eqb class 2 ≡ goes_on_by w b
+begins-by w b class e z = rw (e, z) (class_letter b)
 
-goes-on-by : (w : Word) (b class : ℕ) → class ≡ classOf b → ¬ (w.length ≡ 0) → ltb w.length 16 && (eqb class 2 || eqb class 3) ≡ goesOnBy w b
-goes-on-by w b class e z = rw (e, class-name b, ne_eqb w.length 0 z)
+goes-on-by : (w : Word) (b class : ℕ) → class ≡ class_of b → ¬ (w.length ≡ 0) → ltb w.length 16 && (eqb class 2 || eqb class 3) ≡ goes_on_by w b
+goes-on-by w b class e z = rw (e, class_name b, ne_eqb w.length 0 z)
 
 class-of-requires : tie.Need-class-of-requires
 class-of-requires c κs = search rules

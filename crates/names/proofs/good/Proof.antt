@@ -12,43 +12,43 @@ use borrow.Author.Tests.{ne_eqb, not-true, not-false}
 use lib.Dec.{eqb, ltb}
 use lib.ListN.{length, get_or, drop, drop_of_length-le}
 use lib.Seq.{drop-cons}
-use Rattle.grammar.specs.Names.{goodNames}
+use Rattle.grammar.specs.Names.{good_names}
 use Rattle.names.specs.declared.Word.{Word}
-use Rattle.names.specs.Words.{no_word, withByte, goesOnBy, standsAt}
-use Rattle.names.proofs.Listing.{goodFrom, good-is}
+use Rattle.names.specs.Words.{no_word, with_byte, goes_on_by, stands_at}
+use Rattle.names.proofs.Listing.{good_from, good_is}
 use Rattle.names.proofs.good.Statement.{statement}
 use Rattle.names.proofs.good.Tie as tie
 
-past_end : (names : List ℕ) (w : Word) (l i : ℕ) → length names ≤ i → eqb w.length 0 && ltb 0 l ≡ goodFrom names (drop i names) w l
+past_end : (names : List ℕ) (w : Word) (l i : ℕ) → length names ≤ i → eqb w.length 0 && ltb 0 l ≡ good_from names (drop i names) w l
 past_end names w l i h = rw (drop_of_length-le names h)
 
-module _ (names : List ℕ) (w : Word) (l i : ℕ) (x : Bool) (below : i < length names) (inv : goodFrom names (drop i names) w l ≡ x) where
+module _ (names : List ℕ) (w : Word) (l i : ℕ) (x : Bool) (below : i < length names) (inv : good_from names (drop i names) w l ≡ x) where
   -- The byte at i taken off the rest.
-  good-here : goodFrom names (get_or names i 0 ∷ drop (suc i) names) w l ≡ x
+  good-here : good_from names (get_or names i 0 ∷ drop (suc i) names) w l ≡ x
   good-here = rw (drop-cons names i 0 below) at inv
 
-  line-ends : get_or names i 0 ≡ 10 → standsAt names w l && goodFrom names (drop (suc i) names) no_word (l + 1) ≡ x
-  line-ends e = simp e at good-here
+  line_ends : get_or names i 0 ≡ 10 → stands_at names w l && good_from names (drop (suc i) names) no_word (l + 1) ≡ x
+  line_ends e = simp e at good-here
 
-  line-fails : {r : Bool} → get_or names i 0 ≡ 10 → r ≡ standsAt names w l → not r ≡ true → false ≡ x
-  line-fails {r} e f g = rw (sym f ∙ not-true r g) at (line-ends e)
+  line-fails : {r : Bool} → get_or names i 0 ≡ 10 → r ≡ stands_at names w l → not r ≡ true → false ≡ x
+  line-fails {r} e f g = rw (sym f ∙ not-true r g) at (line_ends e)
 
-  line-over : {r : Bool} {w' : Word} {l' : ℕ} → get_or names i 0 ≡ 10 → r ≡ standsAt names w l → not r ≡ false
-      → w' ≡ no_word → l' ≡ l + 1 → goodFrom names (drop (i + 1) names) w' l' ≡ x
-  line-over {r} e f g p q = rw (p, q, add-one i) (rw (sym f ∙ not-false r g) at (line-ends e))
+  line-over : {r : Bool} {w' : Word} {l' : ℕ} → get_or names i 0 ≡ 10 → r ≡ stands_at names w l → not r ≡ false
+      → w' ≡ no_word → l' ≡ l + 1 → good_from names (drop (i + 1) names) w' l' ≡ x
+  line-over {r} e f g p q = rw (p, q, add-one i) (rw (sym f ∙ not-false r g) at (line_ends e))
 
-  line-more : ¬ (get_or names i 0 ≡ 10) → goesOnBy w (get_or names i 0) && goodFrom names (drop (suc i) names) (withByte w (get_or names i 0)) l ≡ x
+  line-more : ¬ (get_or names i 0 ≡ 10) → goes_on_by w (get_or names i 0) && good_from names (drop (suc i) names) (with_byte w (get_or names i 0)) l ≡ x
   line-more e = simp (ne_eqb (get_or names i 0) 10 e) at good-here
 
-  byte-fails : {r : Bool} → ¬ (get_or names i 0 ≡ 10) → r ≡ goesOnBy w (get_or names i 0) → not r ≡ true → false ≡ x
+  byte-fails : {r : Bool} → ¬ (get_or names i 0 ≡ 10) → r ≡ goes_on_by w (get_or names i 0) → not r ≡ true → false ≡ x
   byte-fails {r} e f g = rw (sym f ∙ not-true r g) at (line-more e)
 
-  line-goes-on : {r : Bool} {w' : Word} {l' : ℕ} → ¬ (get_or names i 0 ≡ 10) → r ≡ goesOnBy w (get_or names i 0) → not r ≡ false
-      → w' ≡ withByte w (get_or names i 0) → l' ≡ l → goodFrom names (drop (i + 1) names) w' l' ≡ x
-  line-goes-on {r} e f g p q = rw (p, q, add-one i) (rw (sym f ∙ not-false r g) at (line-more e))
+  line_goes_on : {r : Bool} {w' : Word} {l' : ℕ} → ¬ (get_or names i 0 ≡ 10) → r ≡ goes_on_by w (get_or names i 0) → not r ≡ false
+      → w' ≡ with_byte w (get_or names i 0) → l' ≡ l → good_from names (drop (i + 1) names) w' l' ≡ x
+  line_goes_on {r} e f g p q = rw (p, q, add-one i) (rw (sym f ∙ not-false r g) at (line-more e))
 
 abbrev invariant-loop : tie.invariant-loop
-invariant-loop names word₀ label₀ i₀ word label i = (i ≤ length names) × (label ≤ i) × (goodFrom names (drop i names) word label ≡ goodNames names)
+invariant-loop names word₀ label₀ i₀ word label i = (i ≤ length names) × (label ≤ i) × (good_from names (drop i names) word label ≡ good_names names)
 
 abbrev decreases-loop : tie.decreases-loop
 decreases-loop names word₀ label₀ i₀ word label i = length names - i
@@ -57,7 +57,7 @@ none-requires : tie.Need-none-requires invariant-loop decreases-loop
 none-requires c κs = search rules
 
 loop-holds : tie.Need-loop-init invariant-loop decreases-loop
-loop-holds c = (omega arith, omega arith, rw c.none.ensures (good-is c.before.before.args.names.now))
+loop-holds c = (omega arith, omega arith, rw c.none.ensures (good_is c.before.before.args.names.now))
 
 shared-slice-read-byte : tie.Need-shared-slice-read-byte invariant-loop decreases-loop
 shared-slice-read-byte c = omega arith
@@ -103,7 +103,7 @@ loop-again c =
       ⊎_elim (λ w. omega (arith, w.5)) (λ w. omega (arith, w.5)) c.if1.branch,
       ⊎_elim
           (λ w. line-over a.names.now l.word l.label l.i _ (omega arith) l.invariant.2 w.0.taken w.1.ensures w.2.left (w.4 ∙ w.3.ensures) w.5)
-          (λ w. line-goes-on a.names.now l.word l.label l.i _ (omega arith) l.invariant.2 w.0.left w.1.ensures w.2.left (w.4 ∙ w.3.ensures) w.5)
+          (λ w. line_goes_on a.names.now l.word l.label l.i _ (omega arith) l.invariant.2 w.0.left w.1.ensures w.2.left (w.4 ∙ w.3.ensures) w.5)
           c.if1.branch,
     )
 

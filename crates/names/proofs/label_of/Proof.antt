@@ -14,7 +14,7 @@ use lib.Dec.{eqb}
 use Rattle.names.specs.declared.Word.{Word}
 use Rattle.names.specs.declared.Label.{Label}
 use Rattle.names.specs.declared.Label.TheVariants as label
-use Rattle.names.specs.Words.{hasByte, labelIn}
+use Rattle.names.specs.Words.{has_byte, label_in}
 use Rattle.names.proofs.Seeking.{seek, seek_is}
 use Rattle.names.proofs.label_of.Statement.{statement}
 use Rattle.names.proofs.label_of.Tie as tie
@@ -38,24 +38,24 @@ module _ (names : List ℕ) (w : Word) (at : ℕ) (agrees : Bool) (l i : ℕ) (x
   seek-here : seek (get_or names i 0 ∷ drop (suc i) names) w at agrees l ≡ x
   seek-here = rw (drop-cons names i 0 below) at inv
 
-  line-ends : get_or names i 0 ≡ 10 → seek-ends w at agrees l (drop (suc i) names) ≡ x
-  line-ends e = simp (lt-ltb l 32 few, e) at seek-here
+  line_ends : get_or names i 0 ≡ 10 → seek-ends w at agrees l (drop (suc i) names) ≡ x
+  line_ends e = simp (lt-ltb l 32 few, e) at seek-here
 
   -- A line that ends is the word, or it is not and the next begins.
   line-found : get_or names i 0 ≡ 10 → agrees && eqb at w.length ≡ true → label.Is l ≡ x
-  line-found e h = rw h at (line-ends e)
+  line-found e h = rw h at (line_ends e)
 
   line-over : {l' at' : ℕ} {agrees' : Bool} → get_or names i 0 ≡ 10 → agrees && eqb at w.length ≡ false
       → l' ≡ l + 1 → at' ≡ 0 → agrees' ≡ true → seek (drop (i + 1) names) w at' agrees' l' ≡ x
-  line-over e h a b c = rw (a, b, c, add-one i) (rw h at (line-ends e))
+  line-over e h a b c = rw (a, b, c, add-one i) (rw h at (line_ends e))
 
-  line-goes-on : {l' at' : ℕ} {agrees' : Bool} → ¬ (get_or names i 0 ≡ 10)
-      → l' ≡ l → at' ≡ at + 1 → agrees' ≡ agrees && hasByte w at (get_or names i 0) → seek (drop (i + 1) names) w at' agrees' l' ≡ x
-  line-goes-on e a b c = rw (a, b, c, add-one i) (simp (lt-ltb l 32 few, ne_eqb (get_or names i 0) 10 e) at seek-here)
+  line_goes_on : {l' at' : ℕ} {agrees' : Bool} → ¬ (get_or names i 0 ≡ 10)
+      → l' ≡ l → at' ≡ at + 1 → agrees' ≡ agrees && has_byte w at (get_or names i 0) → seek (drop (i + 1) names) w at' agrees' l' ≡ x
+  line_goes_on e a b c = rw (a, b, c, add-one i) (simp (lt-ltb l 32 few, ne_eqb (get_or names i 0) 10 e) at seek-here)
 
 abbrev invariant-loop : tie.invariant-loop
 invariant-loop names word length' label₀ at₀ agrees₀ i₀ label at agrees i =
-    (i ≤ length names) × (at ≤ i) × (label ≤ 32) × (seek (drop i names) word at agrees label ≡ labelIn names word)
+    (i ≤ length names) × (at ≤ i) × (label ≤ 32) × (seek (drop i names) word at agrees label ≡ label_in names word)
 
 abbrev decreases-loop : tie.decreases-loop
 decreases-loop names word length' label₀ at₀ agrees₀ i₀ label at agrees i = length names - i
@@ -99,7 +99,7 @@ loop-again c =
       ⊎_elim (λ w. omega (arith, w.2)) (λ w. omega (arith, w.2)) c.if2.branch,
       ⊎_elim
           (λ w. line-over a.names.now a.word l.at l.agrees l.label l.i _ (omega arith) (omega arith) l.invariant.3 w.0.taken w.1.left w.2 w.3 w.4)
-          (λ w. line-goes-on a.names.now a.word l.at l.agrees l.label l.i _ (omega arith) (omega arith) l.invariant.3 w.0.left w.2 w.3 (w.4 ∙ ap (λ (t : Bool). l.agrees && t) w.1.ensures))
+          (λ w. line_goes_on a.names.now a.word l.at l.agrees l.label l.i _ (omega arith) (omega arith) l.invariant.3 w.0.left w.2 w.3 (w.4 ∙ ap (λ (t : Bool). l.agrees && t) w.1.ensures))
           c.if2.branch,
     )
 

@@ -11,30 +11,30 @@ use borrow.Author.Tests.{le-ltb, lt-ltb, ne_eqb}
 use lib.ListN.{length, get_or, drop, drop_of_length-le}
 use lib.Seq.{drop-cons}
 use Rattle.names.specs.declared.Word.{Word}
-use Rattle.names.specs.Words.{no_word, withByte, wordFrom}
+use Rattle.names.specs.Words.{no_word, with_byte, word_from}
 use Rattle.names.proofs.name_at.Statement.{statement}
 use Rattle.names.proofs.name_at.Tie as tie
 
-past_end : (names : List ℕ) (w : Word) (a i : ℕ) → length names ≤ i → wordFrom w (drop i names) a ≡ no_word
+past_end : (names : List ℕ) (w : Word) (a i : ℕ) → length names ≤ i → word_from w (drop i names) a ≡ no_word
 past_end names w a i h = rw (drop_of_length-le names h)
 
-module _ (names : List ℕ) (w : Word) (a i : ℕ) (x : Word) (below : i < length names) (inv : wordFrom w (drop i names) a ≡ x) where
+module _ (names : List ℕ) (w : Word) (a i : ℕ) (x : Word) (below : i < length names) (inv : word_from w (drop i names) a ≡ x) where
   -- The byte at i taken off the rest.
-  word-here : wordFrom w (get_or names i 0 ∷ drop (suc i) names) a ≡ x
+  word-here : word_from w (get_or names i 0 ∷ drop (suc i) names) a ≡ x
   word-here = rw (drop-cons names i 0 below) at inv
 
   line-found : get_or names i 0 ≡ 10 → a ≡ 0 → w ≡ x
   line-found e h = simp (e, h) at word-here
 
-  line-over : {w' : Word} {a' : ℕ} → get_or names i 0 ≡ 10 → ¬ (a ≡ 0) → a' ≡ a - 1 → w' ≡ no_word → wordFrom w' (drop (i + 1) names) a' ≡ x
+  line-over : {w' : Word} {a' : ℕ} → get_or names i 0 ≡ 10 → ¬ (a ≡ 0) → a' ≡ a - 1 → w' ≡ no_word → word_from w' (drop (i + 1) names) a' ≡ x
   line-over e h f g = rw (f, g, add-one i) (simp (e, ne_eqb a 0 h) at word-here)
 
-  line-goes-on : {w' : Word} {a' : ℕ} → ¬ (get_or names i 0 ≡ 10) → a' ≡ a → w' ≡ withByte w (get_or names i 0) → wordFrom w' (drop (i + 1) names) a' ≡ x
-  line-goes-on e f g = rw (f, g, add-one i) (simp (ne_eqb (get_or names i 0) 10 e) at word-here)
+  line_goes_on : {w' : Word} {a' : ℕ} → ¬ (get_or names i 0 ≡ 10) → a' ≡ a → w' ≡ with_byte w (get_or names i 0) → word_from w' (drop (i + 1) names) a' ≡ x
+  line_goes_on e f g = rw (f, g, add-one i) (simp (ne_eqb (get_or names i 0) 10 e) at word-here)
 
 abbrev invariant-loop : tie.invariant-loop
 invariant-loop names label word₀ lines₀ i₀ word lines i =
-    (i ≤ length names) × (wordFrom word (drop i names) lines ≡ wordFrom no_word names label)
+    (i ≤ length names) × (word_from word (drop i names) lines ≡ word_from no_word names label)
 
 abbrev decreases-loop : tie.decreases-loop
 decreases-loop names label word₀ lines₀ i₀ word lines i = length names - i
@@ -80,7 +80,7 @@ loop-again c =
       omega arith,
       ⊎_elim
           (λ w. line-over a.names.now l.word l.lines l.i _ (omega arith) l.invariant.1 w.0.taken w.1.left w.4 (w.3 ∙ w.2.ensures))
-          (λ w. line-goes-on a.names.now l.word l.lines l.i _ (omega arith) l.invariant.1 w.0.left w.3 (w.2 ∙ w.1.ensures))
+          (λ w. line_goes_on a.names.now l.word l.lines l.i _ (omega arith) l.invariant.1 w.0.left w.3 (w.2 ∙ w.1.ensures))
           c.if2.branch,
     )
 

@@ -8,14 +8,14 @@ use borrow.Author.Tests.{ne_eqb}
 use Rattle.names.specs.declared.Word.{Word}
 use Rattle.names.specs.declared.Label.{Label}
 use Rattle.names.specs.declared.Label.TheVariants as label
-use Rattle.names.specs.Words.{labelIn, isLabel, standsAt}
+use Rattle.names.specs.Words.{label_in, is_label, stands_at}
 use Rattle.names.proofs.stands.Statement.{statement}
 use Rattle.names.proofs.stands.Tie as tie
 
-empty-fails : (names : List ℕ) (w : Word) (l : ℕ) → w.length ≡ 0 → false ≡ standsAt names w l
+empty-fails : (names : List ℕ) (w : Word) (l : ℕ) → w.length ≡ 0 → false ≡ stands_at names w l
 empty-fails names w l e = rw e
 
-by-label : (names : List ℕ) (w : Word) (l : ℕ) (a : Label) → ¬ (w.length ≡ 0) → labelIn names w ≡ a → isLabel a l ≡ standsAt names w l
+by-label : (names : List ℕ) (w : Word) (l : ℕ) (a : Label) → ¬ (w.length ≡ 0) → label_in names w ≡ a → is_label a l ≡ stands_at names w l
 by-label names w l a h e = rw (ne_eqb w.length 0 h, e)
 
 returns : tie.Need-returns

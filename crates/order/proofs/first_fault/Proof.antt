@@ -5,22 +5,22 @@ use Prim.Native.Nat.{ℕ, ◌≤◌}
 use native.Mathlib.Omega.{arith}
 use borrow.Author.Rules.{rules}
 use lib.ListN.{length}
-use Rattle.meaning.proofs.Search.{rest-start}
+use Rattle.meaning.proofs.Search.{rest_start}
 use Rattle.order.specs.declared.Shape.{Shape}
 use Rattle.order.specs.declared.Place.{Place}
 use Rattle.order.specs.declared.Place.TheVariants.{Fine, At}
-use Rattle.order.specs.Order.{labels_from, wordRight, firstFrom, firstFault}
-use Rattle.order.proofs.Search.{rest-fault}
+use Rattle.order.specs.Order.{labels_from, word_right, first_from, first_fault}
+use Rattle.order.proofs.Search.{rest_fault}
 use Rattle.order.proofs.first_fault.Statement.{statement}
 use Rattle.order.proofs.first_fault.Tie as tie
 
 -- A fault found among the rows' words is the first.
 among-rows :
-    (s : Shape) (words : List ℕ) (p : Place) (k : ℕ) → labels_from s ≤ length words → p ≡ firstFrom (wordRight s words) 0 (labels_from s) → p ≡ At k →
-    p ≡ firstFault s words
-unfolding firstFault
+    (s : Shape) (words : List ℕ) (p : Place) (k : ℕ) → labels_from s ≤ length words → p ≡ first_from (word_right s words) 0 (labels_from s) → p ≡ At k →
+    p ≡ first_fault s words
+unfolding first_fault
 among-rows s words p k l h e =
-    e ∙ rest-fault (wordRight s words) (length words) (labels_from s) 0 k (rest-start At Fine (wordRight s words) (length words)) (omega (arith, l)) (sym h ∙ e)
+    e ∙ rest_fault (word_right s words) (length words) (labels_from s) 0 k (rest_start At Fine (word_right s words) (length words)) (omega (arith, l)) (sym h ∙ e)
 
 rows-fault-requires : tie.Need-rows-fault-requires
 rows-fault-requires c κs = search rules

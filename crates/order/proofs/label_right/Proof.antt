@@ -1,4 +1,4 @@
--- `label_right` meets its contract. A case of the code is a case of `labelRight`.
+-- `label_right` meets its contract. A case of the code is a case of `label_right`.
 use borrow.Author.Tests.{le-leb, lt-leb, lt-ltb, le-ltb}
 use Rattle.order.proofs.label_right.Statement.{statement}
 use Rattle.order.proofs.label_right.Tie as tie

@@ -7,13 +7,13 @@ use native.Mathlib.Omega.{arith}
 use borrow.Author.Rules.{rules}
 use borrow.Author.Tests.{not-true, not-false}
 use lib.ListN.{length, get_or}
-use Rattle.meaning.proofs.Search.{Rest, rest-start, rest_end, rest-right, rest-wrong}
-use Rattle.places.specs.Places.{labelLevel}
+use Rattle.meaning.proofs.Search.{Rest, rest_start, rest_end, rest_right, rest_wrong}
+use Rattle.places.specs.Places.{label_level}
 use Rattle.order.specs.declared.Shape.{Shape}
 use Rattle.order.specs.declared.Place.{Place}
 use Rattle.order.specs.declared.Place.TheVariants.{Fine, At}
-use Rattle.order.specs.Order.{labelRight, labels_from, wordRight, firstFrom, firstFault}
-use Rattle.order.proofs.Search.{at_label, rest-fine}
+use Rattle.order.specs.Order.{label_right, labels_from, word_right, first_from, first_fault}
+use Rattle.order.proofs.Search.{at_label, rest_fine}
 use Rattle.order.proofs.labels_fault.Statement.{statement}
 use Rattle.order.proofs.labels_fault.Tie as tie
 
@@ -24,12 +24,12 @@ all s = labels_from s + s.allowed
 record AtLabel (s : Shape) (words : List ℕ) (from i : ℕ) : Type 0 where
   most : i ≤ s.allowed
   begins : from ≡ labels_from s
-  rest : Rest At Fine (wordRight s words) (all s) (labels_from s + i)
+  rest : Rest At Fine (word_right s words) (all s) (labels_from s + i)
 
 -- The search over so many places is the whole.
-whole : (s : Shape) (words : List ℕ) (p : Place) → all s ≡ length words → p ≡ firstFrom (wordRight s words) 0 (all s) → p ≡ firstFault s words
-unfolding firstFault
-whole s words p e h = h ∙ ap (firstFrom (wordRight s words) 0) e
+whole : (s : Shape) (words : List ℕ) (p : Place) → all s ≡ length words → p ≡ first_from (word_right s words) 0 (all s) → p ≡ first_fault s words
+unfolding first_fault
+whole s words p e h = h ∙ ap (first_from (word_right s words) 0) e
 
 abbrev invariant-loop : tie.invariant-loop
 invariant-loop words s from i₀ i = AtLabel s words from i
@@ -40,8 +40,8 @@ decreases-loop words s from i₀ i = s.allowed - i
 row-length-requires : tie.Need-row-length-requires invariant-loop decreases-loop
 row-length-requires c κs = search rules
 
-begin : (c : tie.After-row-length invariant-loop decreases-loop) → let s = c.before.before.args.s in s.rows * c.row-length.result ≡ labels_from s
-begin c = ap (λ (w : ℕ). c.before.before.args.s.rows * w) c.row-length.ensures
+begin : (c : tie.After-row-length invariant-loop decreases-loop) → let s = c.before.before.args.s in s.rows * c.row_length_lem.result ≡ labels_from s
+begin c = ap (λ (w : ℕ). c.before.before.args.s.rows * w) c.row_length_lem.ensures
 
 mul-from : tie.Need-overflow-mul-from invariant-loop decreases-loop
 mul-from c = omega (arith, begin c.before, c.before.before.before.requires.0.2)
@@ -53,8 +53,8 @@ loop-holds c =
     record {
       most = omega arith;
       begins = begin c.before;
-      rest = rest-fine (wordRight s a.args.words.now) (all s) (labels_from s) 0 (labels_from s + 0)
-          (rest-start At Fine (wordRight s a.args.words.now) (all s)) (omega arith) (sym a.requires.1) (omega arith);
+      rest = rest_fine (word_right s a.args.words.now) (all s) (labels_from s) 0 (labels_from s + 0)
+          (rest_start At Fine (word_right s a.args.words.now) (all s)) (omega arith) (sym a.requires.1) (omega arith);
     }
 
 label-level-requires : tie.Need-label-level-requires invariant-loop decreases-loop
@@ -63,7 +63,7 @@ label-level-requires c κs = omega (arith, c.if1.true, c.before.before.before.be
 -- The place of a turn is within the words.
 inside : (c : tie.After-label-level invariant-loop decreases-loop) →
     let a = c.before.before.before.before.before.before.before in
-    a.args.s.rows * c.before.before.before.before.before.row-length.result + c.before.before.before.loop.i + 1 ≤ length a.args.words.now
+    a.args.s.rows * c.before.before.before.before.before.row_length_lem.result + c.before.before.before.loop.i + 1 ≤ length a.args.words.now
 inside c =
     let a = c.before.before.before.before.before.before.before in
     omega (arith, begin c.before.before.before.before.before, c.before.if1.true, a.requires.0.2)
@@ -81,17 +81,17 @@ label-right-requires : tie.Need-label-right-requires invariant-loop decreases-lo
 label-right-requires c κs = search rules
 
 -- What a test says of the word at its place.
-said : (c : tie.After-label-right invariant-loop decreases-loop) (b : Bool) → c.label-right.result ≡ b →
+said : (c : tie.After-label-right invariant-loop decreases-loop) (b : Bool) → c.label_right_lem.result ≡ b →
     let a = c.before.before.before.before.before.before.before.before.before in
-    wordRight a.args.s a.args.words.now (labels_from a.args.s + c.before.before.before.before.before.loop.i) ≡ b
+    word_right a.args.s a.args.words.now (labels_from a.args.s + c.before.before.before.before.before.loop.i) ≡ b
 said c b e =
     let a = c.before.before.before.before.before.before.before.before.before in
     let l = c.before.before in
     let i = c.before.before.before.before.before.loop.i in
     at_label a.args.s a.args.words.now _ i refl
-    ∙ ap (λ (p : ℕ). labelRight a.args.s (labelLevel i) (get_or a.args.words.now p 0)) (sym (ap (λ (n : ℕ). n + i) (begin l.before.before.before.before.before)))
-    ∙ ap (λ (n : ℕ). labelRight a.args.s n (get_or a.args.words.now (a.args.s.rows * l.before.before.before.before.before.row-length.result + i) 0)) (sym l.label-level.ensures)
-    ∙ sym c.label-right.ensures ∙ e
+    ∙ ap (λ (p : ℕ). label_right a.args.s (label_level i) (get_or a.args.words.now p 0)) (sym (ap (λ (n : ℕ). n + i) (begin l.before.before.before.before.before)))
+    ∙ ap (λ (n : ℕ). label_right a.args.s n (get_or a.args.words.now (a.args.s.rows * l.before.before.before.before.before.row_length_lem.result + i) 0)) (sym l.label-level.ensures)
+    ∙ sym c.label_right_lem.ensures ∙ e
 
 add-t13 : tie.Need-overflow-add-t13 invariant-loop decreases-loop
 add-t13 c = omega (arith, inside c.before.before.before)
@@ -104,7 +104,7 @@ returns c =
     let s = a.args.s in
     whole s a.args.words.now _ a.requires.0.2
     (ap (λ (n : ℕ). At (n + l.i)) (begin r.before.before.before.before.before.before.before)
-    ∙ rest-wrong At Fine (wordRight s a.args.words.now) (all s) (labels_from s + l.i) l.invariant.rest (omega arith) (said r _ (not-true _ c.if2.true)))
+    ∙ rest_wrong At Fine (word_right s a.args.words.now) (all s) (labels_from s + l.i) l.invariant.rest (omega arith) (said r _ (not-true _ c.if2.true)))
 
 add-i : tie.Need-overflow-add-i invariant-loop decreases-loop
 add-i c = omega arith
@@ -121,7 +121,7 @@ loop-again c =
     record {
       most = omega arith;
       begins = l.invariant.begins;
-      rest = rest-right At Fine (wordRight s a.args.words.now) (all s) (labels_from s + l.i) (labels_from s + (l.i + 1)) l.invariant.rest (omega arith)
+      rest = rest_right At Fine (word_right s a.args.words.now) (all s) (labels_from s + l.i) (labels_from s + (l.i + 1)) l.invariant.rest (omega arith)
           (said r _ (not-false _ c.if2.false)) (omega arith);
     }
 
@@ -130,7 +130,7 @@ returns-2 c =
     let a = c.before.before.before.before.before.before in
     let l = c.before.before.loop in
     let s = a.args.s in
-    whole s a.args.words.now _ a.requires.0.2 (rest_end At Fine (wordRight s a.args.words.now) (all s) (labels_from s + l.i) l.invariant.rest (omega arith))
+    whole s a.args.words.now _ a.requires.0.2 (rest_end At Fine (word_right s a.args.words.now) (all s) (labels_from s + l.i) l.invariant.rest (omega arith))
 
 pub labels-fault-spec : {M : Type 1} → statement M
 labels-fault-spec =

@@ -4,13 +4,13 @@ use native.Mathlib.Omega.{arith}
 use borrow.Author.Tests.{not-true, not-false}
 use lib.ListN.{length}
 use Rattle.order.proofs.Cells.{row_fits}
-use Rattle.order.proofs.Levels.{state-wrong, selecting-wrong, rejecting-wrong, level-right}
+use Rattle.order.proofs.Levels.{state_wrong, selecting_wrong, rejecting_wrong, level_right}
 use borrow.Author.Rules.{rules}
 use Rattle.order.proofs.level_fault.Statement.{statement}
 use Rattle.order.proofs.level_fault.Tie as tie
 
-within : (c : tie.After-row-length) → c.before.before.args.r * c.row-length.result + c.row-length.result ≤ length c.before.before.args.words.now
-within c = row_fits c.before.before.args.s.rows _ _ _ _ c.row-length.ensures (omega arith) c.before.before.requires.4
+within : (c : tie.After-row-length) → c.before.before.args.r * c.row_length_lem.result + c.row_length_lem.result ≤ length c.before.before.args.words.now
+within c = row_fits c.before.before.args.s.rows _ _ _ _ c.row_length_lem.ensures (omega arith) c.before.before.requires.4
 
 row-length-requires : tie.Need-row-length-requires
 row-length-requires c κs = search rules
@@ -31,7 +31,7 @@ returns : tie.Need-returns
 returns c =
     let l = c.before.before.before in
     let s = l.before.before in
-    state-wrong s.args.s s.args.words.now _ s.args.r s.args.l l.row-length.ensures s.requires.2 (omega arith)
+    state_wrong s.args.s s.args.words.now _ s.args.r s.args.l l.row_length_lem.ensures s.requires.2 (omega arith)
     c.before.before.state-at.ensures c.before.cell-right.ensures (not-true _ c.if1.true)
 
 selecting-at-requires : tie.Need-selecting-at-requires
@@ -48,7 +48,7 @@ returns-2 c =
     let t1 = c.before.before.before in
     let l = t1.before.before.before in
     let s = l.before.before in
-    selecting-wrong s.args.s s.args.words.now _ s.args.r s.args.l l.row-length.ensures s.requires.2 (omega arith)
+    selecting_wrong s.args.s s.args.words.now _ s.args.r s.args.l l.row_length_lem.ensures s.requires.2 (omega arith)
     t1.before.before.state-at.ensures t1.before.cell-right.ensures (not-false _ t1.if1.false)
     c.before.before.selecting-at.ensures c.before.cell-right2.ensures (not-true _ c.if2.true)
 
@@ -67,7 +67,7 @@ returns-3 c =
     let t1 = t2.before.before.before in
     let l = t1.before.before.before in
     let s = l.before.before in
-    rejecting-wrong s.args.s s.args.words.now _ s.args.r s.args.l l.row-length.ensures s.requires.2 (omega arith)
+    rejecting_wrong s.args.s s.args.words.now _ s.args.r s.args.l l.row_length_lem.ensures s.requires.2 (omega arith)
     t1.before.before.state-at.ensures t1.before.cell-right.ensures (not-false _ t1.if1.false)
     t2.before.before.selecting-at.ensures t2.before.cell-right2.ensures (not-false _ t2.if2.false)
     c.before.before.rejecting-at.ensures c.before.cell-right3.ensures (not-true _ c.if3.true)
@@ -78,7 +78,7 @@ returns-4 c =
     let t1 = t2.before.before.before in
     let l = t1.before.before.before in
     let s = l.before.before in
-    level-right s.args.s s.args.words.now _ s.args.r s.args.l l.row-length.ensures s.requires.2 (omega arith)
+    level_right s.args.s s.args.words.now _ s.args.r s.args.l l.row_length_lem.ensures s.requires.2 (omega arith)
     t1.before.before.state-at.ensures t1.before.cell-right.ensures (not-false _ t1.if1.false)
     t2.before.before.selecting-at.ensures t2.before.cell-right2.ensures (not-false _ t2.if2.false)
     c.before.before.rejecting-at.ensures c.before.cell-right3.ensures (not-false _ c.if3.false)

@@ -6,28 +6,28 @@ use native.Mathlib.Omega.{arith}
 use native.Mathlib.Nat.{mul-le-mul_right, zero-mul}
 use borrow.Author.Rules.{rules}
 use borrow.Author.Tests.{not-true, not-false}
-use Rattle.meaning.proofs.Search.{Rest, rest-start, rest_end, rest-right, rest-wrong}
-use Rattle.places.specs.Places.{row_at, rowLength}
+use Rattle.meaning.proofs.Search.{Rest, rest_start, rest_end, rest_right, rest_wrong}
+use Rattle.places.specs.Places.{row_at, row_length}
 use Rattle.order.specs.declared.Shape.{Shape}
 use Rattle.order.specs.declared.Place.{Place}
 use Rattle.order.specs.declared.Place.TheVariants.{Fine, At}
-use Rattle.order.specs.Order.{wordRight, labels_from}
+use Rattle.order.specs.Order.{word_right, labels_from}
 use Rattle.order.proofs.Cells.{row_fits}
 use Rattle.places.proofs.Rows.{next_row}
-use Rattle.order.proofs.Levels.{levelPlace, levelSearch}
-use Rattle.order.proofs.Search.{at-cell, rest-fine, rest-fault}
+use Rattle.order.proofs.Levels.{level_place, level_search}
+use Rattle.order.proofs.Search.{at-cell, rest_fine, rest_fault}
 use Rattle.order.proofs.rows_fault.Statement.{statement}
 use Rattle.order.proofs.rows_fault.Tie as tie
 
 record AtRow (s : Shape) (words : List ℕ) (place : Place) (r : ℕ) : Type 0 where
   most : r ≤ s.rows
   none : place ≡ Fine
-  rest : Rest At Fine (wordRight s words) (labels_from s) (row_at s.allowed r)
+  rest : Rest At Fine (word_right s words) (labels_from s) (row_at s.allowed r)
 
 record InRow (s : Shape) (words : List ℕ) (place : Place) (r l : ℕ) : Type 0 where
   most : l ≤ s.allowed + 1
   none : place ≡ Fine
-  rest : Rest At Fine (wordRight s words) (labels_from s) (levelPlace s r l)
+  rest : Rest At Fine (word_right s words) (labels_from s) (level_place s r l)
 
 abbrev invariant-loop : tie.invariant-loop
 invariant-loop words s rows allowed w place₀ r l₀ place l = InRow s words place r l
@@ -43,19 +43,19 @@ decreases-rows words s rows allowed w place₀ r₀ place r = s.rows - r
 
 -- A row that is there is within the rows.
 within : (c : tie.In-rows invariant-loop decreases-loop invariant-rows decreases-rows) → let s = c.before.before.before.before in
-    row_at s.args.s.allowed c.before.rows.r + rowLength s.args.s.allowed ≤ labels_from s.args.s
+    row_at s.args.s.allowed c.before.rows.r + row_length s.args.s.allowed ≤ labels_from s.args.s
 within c =
     let s = c.before.before.before.before in
-    row_fits s.args.s.rows c.before.rows.r (rowLength s.args.s.allowed) _ _ refl c.rows-test.true (omega arith)
+    row_fits s.args.s.rows c.before.rows.r (row_length s.args.s.allowed) _ _ refl c.rows-test.true (omega arith)
 
 -- What the code takes for a row's place is that.
 start : (c : tie.At-rows invariant-loop decreases-loop invariant-rows decreases-rows) → let s = c.before.before.before in
-    c.rows.r * c.before.row-length.result ≡ row_at s.args.s.allowed c.rows.r
-start c = ap (λ w. c.rows.r * w) c.before.row-length.ensures
+    c.rows.r * c.before.row_length_lem.result ≡ row_at s.args.s.allowed c.rows.r
+start c = ap (λ w. c.rows.r * w) c.before.row_length_lem.ensures
 
 -- What the calls say of the words at their places.
 said : (c : tie.After-cell-right invariant-loop decreases-loop invariant-rows decreases-rows) → let s = c.before.before.before.before.before in
-    wordRight s.args.s s.args.words.now (row_at s.args.s.allowed c.before.before.rows.r) ≡ c.cell-right.result
+    word_right s.args.s s.args.words.now (row_at s.args.s.allowed c.before.before.rows.r) ≡ c.cell-right.result
 said c =
     let s = c.before.before.before.before.before in
     let r = c.before.before.rows.r in
@@ -65,7 +65,7 @@ level-said : (c : tie.After-level-fault invariant-loop decreases-loop invariant-
     let l = c.before.before.loop in
     let i = c.before.before.before.before.before in
     let s = i.before.before.before.before in
-    levelSearch s.args.s s.args.words.now i.before.rows.r l.l ≡ p
+    level_search s.args.s s.args.words.now i.before.rows.r l.l ≡ p
 level-said c p e = cc
 
 row-length-requires : tie.Need-row-length-requires invariant-loop decreases-loop invariant-rows decreases-rows
@@ -74,7 +74,7 @@ row-length-requires c κs = search rules
 rows-holds : tie.Need-rows-init invariant-loop decreases-loop invariant-rows decreases-rows
 rows-holds c =
     let s = c.before.before in
-    record { most = omega arith; none = refl; rest = rw (zero-mul (rowLength s.args.s.allowed)) (rest-start At Fine (wordRight s.args.s s.args.words.now) (labels_from s.args.s)) }
+    record { most = omega arith; none = refl; rest = rw (zero-mul (row_length s.args.s.allowed)) (rest_start At Fine (word_right s.args.s s.args.words.now) (labels_from s.args.s)) }
 
 cell-right-requires : tie.Need-cell-right-requires invariant-loop decreases-loop invariant-rows decreases-rows
 cell-right-requires c κs =
@@ -95,7 +95,7 @@ loop-holds c =
     record {
       most = omega arith;
       none = i.invariant.none;
-      rest = rest-right At Fine (wordRight s.args.s s.args.words.now) (labels_from s.args.s) (row_at s.args.s.allowed i.r) _ i.invariant.rest (omega (arith, within c.before.before)) right (omega arith);
+      rest = rest_right At Fine (word_right s.args.s s.args.words.now) (labels_from s.args.s) (row_at s.args.s.allowed i.r) _ i.invariant.rest (omega (arith, within c.before.before)) right (omega arith);
     }
 
 level-fault-requires : tie.Need-level-fault-requires invariant-loop decreases-loop invariant-rows decreases-rows
@@ -124,7 +124,7 @@ loop-again c =
     record {
       most = omega arith;
       none = l.invariant.none;
-      rest = rest-fine (wordRight s.args.s s.args.words.now) (labels_from s.args.s) 3 (levelPlace s.args.s i.before.rows.r l.l) _ l.invariant.rest (omega (arith, within i)) none_here (omega arith);
+      rest = rest_fine (word_right s.args.s s.args.words.now) (labels_from s.args.s) 3 (level_place s.args.s i.before.rows.r l.l) _ l.invariant.rest (omega (arith, within i)) none_here (omega arith);
     }
 
 add_r : tie.Need-overflow-add-r invariant-loop decreases-loop invariant-rows decreases-rows
@@ -139,19 +139,19 @@ rows-again c =
     let i = c.before.before.before.before in
     let s = i.before.before.before.before in
     let r = i.before.rows.r in
-    let e : levelPlace s.args.s r l.l ≡ row_at s.args.s.allowed (r + 1) = omega (arith, next_row r (rowLength s.args.s.allowed)) in
+    let e : level_place s.args.s r l.l ≡ row_at s.args.s.allowed (r + 1) = omega (arith, next_row r (row_length s.args.s.allowed)) in
     record {
       most = omega arith;
       none = l.invariant.none;
-      rest = subst (λ (k : ℕ). Rest At Fine (wordRight s.args.s s.args.words.now) (labels_from s.args.s) k) e l.invariant.rest;
+      rest = subst (λ (k : ℕ). Rest At Fine (word_right s.args.s s.args.words.now) (labels_from s.args.s) k) e l.invariant.rest;
     }
 
 returns : tie.Need-returns invariant-loop decreases-loop invariant-rows decreases-rows
 returns c =
     let s = c.before.before.before.before in
     let i = c.before.rows in
-    let all : row_at s.args.s.allowed s.args.s.rows ≤ row_at s.args.s.allowed i.r = mul-le-mul_right (rowLength s.args.s.allowed) (omega arith) in
-    i.invariant.none ∙ rest_end At Fine (wordRight s.args.s s.args.words.now) (labels_from s.args.s) _ i.invariant.rest (omega arith)
+    let all : row_at s.args.s.allowed s.args.s.rows ≤ row_at s.args.s.allowed i.r = mul-le-mul_right (row_length s.args.s.allowed) (omega arith) in
+    i.invariant.none ∙ rest_end At Fine (word_right s.args.s s.args.words.now) (labels_from s.args.s) _ i.invariant.rest (omega arith)
 
 returns-2 : tie.Need-returns-2 invariant-loop decreases-loop invariant-rows decreases-rows
 returns-2 c =
@@ -159,7 +159,7 @@ returns-2 c =
     let i = c.before.before.before.rows in
     let wrong = said c.before ∙ not-true _ c.if1.true in
     ap At (omega (arith, start c.before.before.before))
-    ∙ rest-wrong At Fine (wordRight s.args.s s.args.words.now) (labels_from s.args.s) (row_at s.args.s.allowed i.r) i.invariant.rest (omega (arith, within c.before.before)) wrong
+    ∙ rest_wrong At Fine (word_right s.args.s s.args.words.now) (labels_from s.args.s) (row_at s.args.s.allowed i.r) i.invariant.rest (omega (arith, within c.before.before)) wrong
 
 returns-3 : tie.Need-returns-3 invariant-loop decreases-loop invariant-rows decreases-rows
 returns-3 c =
@@ -168,7 +168,7 @@ returns-3 c =
     let s = i.before.before.before.before in
     let found = level-said c.before.before _ c.enum_told.given.1 in
     c.enum_told.given.1
-    ∙ rest-fault (wordRight s.args.s s.args.words.now) (labels_from s.args.s) 3 (levelPlace s.args.s i.before.rows.r l.l) _ l.invariant.rest (omega (arith, within i)) found
+    ∙ rest_fault (word_right s.args.s s.args.words.now) (labels_from s.args.s) 3 (level_place s.args.s i.before.rows.r l.l) _ l.invariant.rest (omega (arith, within i)) found
 
 pub rows-fault-spec : {M : Type 1} → statement M
 rows-fault-spec =

@@ -1,4 +1,4 @@
--- `has_room` meets its contract: there is room where both tests are true. Assumes nothing.
+-- `has_room_lem` meets its contract: there is room where both tests are true. Assumes nothing.
 use native.Mathlib.Omega.{arith}
 use borrow.Author.Tests.{leb-true}
 use Rattle.pipes.proofs.has_room.Statement.{statement}

@@ -17,11 +17,11 @@ row-length-requires c κs = search rules
 
 -- src/lib.rt:45:5
 mul-result : tie.Need-overflow-mul-result
-mul-result c = omega (arith, mul-le-mul_right {m = c.before.args.rows + 1} {n = 65} c.row-length.result (omega arith))
+mul-result c = omega (arith, mul-le-mul_right {m = c.before.args.rows + 1} {n = 65} c.row_length_lem.result (omega arith))
 
 -- src/lib.rt:41:1
 returns : tie.Need-returns
-returns c = ap (λ x. (c.before.args.rows + 1) * x) c.row-length.ensures
+returns c = ap (λ x. (c.before.args.rows + 1) * x) c.row_length_lem.ensures
 
 pub rows-length-spec : {M : Type 1} → statement M
 rows-length-spec = tie.close (tie.spec add-result row-length-requires mul-result returns)

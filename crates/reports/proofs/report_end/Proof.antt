@@ -3,8 +3,8 @@ use mathlib.Core.Path.{sym, ◌∙◌}
 use borrow.Author.Rules.{rules}
 use native.Mathlib.Omega.{arith}
 use Rattle.meaning.specs.Table.{table_of}
-use Rattle.places.specs.Memory.{heldIn}
-use Rattle.reports.proofs.Puts.{put-final, put_other}
+use Rattle.places.specs.Memory.{held_in}
+use Rattle.reports.proofs.Puts.{put_final, put_other}
 use Rattle.reports.proofs.report_end.Statement.{statement}
 use Rattle.reports.proofs.report_end.Tie as tie
 
@@ -59,7 +59,7 @@ returns : tie.Need-returns
 returns c =
     let s = c.before.before.before.before.before.before.before.before in
     let e = sym (rw c.before.before.before.state-at.ensures at c.before.is-final.ensures) ∙ c.if1.true in
-    put-final (table_of s.args.table.now) (heldIn 0 s.args.row.now) s.args.at s.args.reports.now s.requires.1.1.1 e
+    put_final (table_of s.args.table.now) (held_in 0 s.args.row.now) s.args.at s.args.reports.now s.requires.1.1.1 e
 
 same-length-2 : tie.Need-same-length-2
 same-length-2 c = search rules
@@ -68,7 +68,7 @@ returns-2 : tie.Need-returns-2
 returns-2 c =
     let s = c.before.before.before.before.before.before.before.before in
     let e = sym (rw c.before.before.before.state-at.ensures at c.before.is-final.ensures) ∙ c.if1.false in
-    put_other (table_of s.args.table.now) (heldIn 0 s.args.row.now) s.args.at s.args.reports.now s.requires.1.1.1 e
+    put_other (table_of s.args.table.now) (held_in 0 s.args.row.now) s.args.at s.args.reports.now s.requires.1.1.1 e
 
 pub report-end-spec : {M : Type 1} → statement M
 report-end-spec =

@@ -6,13 +6,13 @@ use native.Mathlib.Omega.{arith}
 use lib.ListN.{length}
 use Rattle.meaning.specs.Table.{table_of}
 use Rattle.places.proofs.Rows.{row_fits}
-use Rattle.reports.specs.Reports.{endReport}
-use Rattle.reports.proofs.Puts.{Reported, reported-none, reported-more}
+use Rattle.reports.specs.Reports.{end_report}
+use Rattle.reports.proofs.Puts.{Reported, reported_none, reported_more}
 use Rattle.reports.proofs.report_ends.Statement.{statement}
 use Rattle.reports.proofs.report_ends.Tie as tie
 
 abbrev invariant-loop : tie.invariant-loop
-invariant-loop words reports₀ table w n r₀ reports r = Reported (endReport (table_of table)) w 0 n words reports₀ reports r r
+invariant-loop words reports₀ table w n r₀ reports r = Reported (end_report (table_of table)) w 0 n words reports₀ reports r r
 
 abbrev decreases-loop : tie.decreases-loop
 decreases-loop words reports₀ table w n r₀ reports r = n - r
@@ -24,7 +24,7 @@ module _ (c : tie.In-loop invariant-loop decreases-loop) where
 loop-holds : tie.Need-loop-init invariant-loop decreases-loop
 loop-holds c =
     let a = c.before.before.before.args in
-    reported-none (endReport (table_of a.table.now)) a.w 0 a.n a.words.now a.reports.now
+    reported_none (end_report (table_of a.table.now)) a.w 0 a.n a.words.now a.reports.now
 
 mul-from : tie.Need-overflow-mul-from invariant-loop decreases-loop
 mul-from c = omega (arith, inside c)
@@ -63,7 +63,7 @@ loop-again c =
     let l = c.before.before.before.before.before.before.loop in
     let g = c.before.before.report-end in
     let e = rw (add-sub_cancel_left (l.r * a.w) a.w) at g.ensures in
-    reported-more (endReport (table_of a.table.now)) (λ h. omega arith) a.w 0 a.n a.words.now a.reports.now l.reports _ l.r l.r (l.r + 1) l.invariant (omega arith) refl e g.auto.1.0
+    reported_more (end_report (table_of a.table.now)) (λ h. omega arith) a.w 0 a.n a.words.now a.reports.now l.reports _ l.r l.r (l.r + 1) l.invariant (omega arith) refl e g.auto.1.0
 
 same_length : tie.Need-same-length invariant-loop decreases-loop
 same_length c = c.before.loop.invariant.len

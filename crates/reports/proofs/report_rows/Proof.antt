@@ -5,13 +5,13 @@ use native.Mathlib.Nat.{add-sub_cancel_left}
 use native.Mathlib.Omega.{arith}
 use lib.ListN.{length}
 use Rattle.places.proofs.Rows.{row_fits}
-use Rattle.reports.specs.Reports.{reportOf}
-use Rattle.reports.proofs.Puts.{Reported, reported-none, reported-more, report-few}
+use Rattle.reports.specs.Reports.{report_of}
+use Rattle.reports.proofs.Puts.{Reported, reported_none, reported_more, report_few}
 use Rattle.reports.proofs.report_rows.Statement.{statement}
 use Rattle.reports.proofs.report_rows.Tie as tie
 
 abbrev invariant-loop : tie.invariant-loop
-invariant-loop words reports₀ w d n count₀ r₀ reports count r = Reported reportOf w d n words reports₀ reports count r
+invariant-loop words reports₀ w d n count₀ r₀ reports count r = Reported report_of w d n words reports₀ reports count r
 
 abbrev decreases-loop : tie.decreases-loop
 decreases-loop words reports₀ w d n count₀ r₀ reports count r = n - r
@@ -21,7 +21,7 @@ module _ (c : tie.In-loop invariant-loop decreases-loop) where
   inside = row_fits c.before.before.before.before.args.n c.before.loop.r c.before.before.before.before.args.w _ c.loop-test.true c.before.before.before.before.requires.0.fits
 
 loop-holds : tie.Need-loop-init invariant-loop decreases-loop
-loop-holds c = reported-none reportOf c.before.before.args.w c.before.before.args.d c.before.before.args.n c.before.before.args.words.now c.before.before.args.reports.now
+loop-holds c = reported_none report_of c.before.before.args.w c.before.before.args.d c.before.before.args.n c.before.before.args.words.now c.before.before.args.reports.now
 
 mul-from : tie.Need-overflow-mul-from invariant-loop decreases-loop
 mul-from c = omega (arith, inside c)
@@ -61,7 +61,7 @@ loop-again c =
     let g = c.before.before.report-row in
     let k = add-sub_cancel_left (l.r * s.args.w) s.args.w in
     let e = rw k at g.ensures in
-    reported-more reportOf report-few s.args.w s.args.d s.args.n s.args.words.now s.args.reports.now l.reports _ l.count l.r g.result l.invariant (omega arith) e.0 e.1 g.auto.1.0
+    reported_more report_of report_few s.args.w s.args.d s.args.n s.args.words.now s.args.reports.now l.reports _ l.count l.r g.result l.invariant (omega arith) e.0 e.1 g.auto.1.0
 
 same_length : tie.Need-same-length invariant-loop decreases-loop
 same_length c = c.before.loop.invariant.len

@@ -2,10 +2,10 @@
 use mathlib.Core.Path.{◌≡◌, sym, ◌∙◌}
 use mathlib.Core.Bool.{true, false}
 use borrow.Author.Rules.{rules}
-use Rattle.meaning.specs.Rows.{isSelecting, isRejecting}
-use Rattle.places.specs.Memory.{Held, rowIn}
+use Rattle.meaning.specs.Rows.{is_selecting, is_rejecting}
+use Rattle.places.specs.Memory.{Held, row_in}
 use Rattle.rows.specs.Steps.{in_row}
-use Rattle.reports.proofs.Puts.{put-selected, put-failed, put-nothing}
+use Rattle.reports.proofs.Puts.{put_selected, put_failed, put_nothing}
 use Rattle.reports.proofs.report_state.Statement.{statement}
 use Rattle.reports.proofs.report_state.Tie as tie
 
@@ -45,9 +45,9 @@ same_length c = search rules
 returns : tie.Need-returns
 returns c =
     let a = c.before.before.before.before.before.before.args in
-    let h : Held = record { position = a.position; row = in_row a.s (rowIn a.d a.row.now) } in
-    let e : isSelecting h.row ≡ true = sym (rw c.before.before.before.selecting-at.ensures at c.before.holds.ensures) ∙ c.if1.true in
-    put-selected h a.at a.reports.now e c.before.before.before.before.before.before.requires.1.1
+    let h : Held = record { position = a.position; row = in_row a.s (row_in a.d a.row.now) } in
+    let e : is_selecting h.row ≡ true = sym (rw c.before.before.before.selecting-at.ensures at c.before.holds.ensures) ∙ c.if1.true in
+    put_selected h a.at a.reports.now e c.before.before.before.before.before.before.requires.1.1
 
 rejecting-at-requires : tie.Need-rejecting-at-requires
 rejecting-at-requires c κs = search rules
@@ -82,18 +82,18 @@ same-length-2 c = search rules
 returns-2 : tie.Need-returns-2
 returns-2 c =
     let a = c.before.before.before.before.before.before.before.before.before.before.args in
-    let h : Held = record { position = a.position; row = in_row a.s (rowIn a.d a.row.now) } in
-    let e : isSelecting h.row ≡ false = sym (rw c.before.before.before.before.before.before.before.selecting-at.ensures at c.before.before.before.before.before.holds.ensures) ∙ c.before.before.before.before.if1.false in
-    let f : isRejecting h.row ≡ true = sym (rw c.before.before.before.rejecting-at.ensures at c.before.holds2.ensures) ∙ c.if2.true in
-    put-failed h a.at a.reports.now e f c.before.before.before.before.before.before.before.before.before.before.requires.1.1
+    let h : Held = record { position = a.position; row = in_row a.s (row_in a.d a.row.now) } in
+    let e : is_selecting h.row ≡ false = sym (rw c.before.before.before.before.before.before.before.selecting-at.ensures at c.before.before.before.before.before.holds.ensures) ∙ c.before.before.before.before.if1.false in
+    let f : is_rejecting h.row ≡ true = sym (rw c.before.before.before.rejecting-at.ensures at c.before.holds2.ensures) ∙ c.if2.true in
+    put_failed h a.at a.reports.now e f c.before.before.before.before.before.before.before.before.before.before.requires.1.1
 
 returns-3 : tie.Need-returns-3
 returns-3 c =
     let a = c.before.before.before.before.before.before.before.before.before.before.args in
-    let h : Held = record { position = a.position; row = in_row a.s (rowIn a.d a.row.now) } in
-    let e : isSelecting h.row ≡ false = sym (rw c.before.before.before.before.before.before.before.selecting-at.ensures at c.before.before.before.before.before.holds.ensures) ∙ c.before.before.before.before.if1.false in
-    let f : isRejecting h.row ≡ false = sym (rw c.before.before.before.rejecting-at.ensures at c.before.holds2.ensures) ∙ c.if2.false in
-    put-nothing h a.at a.reports.now e f
+    let h : Held = record { position = a.position; row = in_row a.s (row_in a.d a.row.now) } in
+    let e : is_selecting h.row ≡ false = sym (rw c.before.before.before.before.before.before.before.selecting-at.ensures at c.before.before.before.before.before.holds.ensures) ∙ c.before.before.before.before.if1.false in
+    let f : is_rejecting h.row ≡ false = sym (rw c.before.before.before.rejecting-at.ensures at c.before.holds2.ensures) ∙ c.if2.false in
+    put_nothing h a.at a.reports.now e f
 
 pub report-state-spec : {M : Type 1} → statement M
 report-state-spec =

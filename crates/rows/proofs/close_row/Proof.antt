@@ -2,7 +2,7 @@
 use native.Mathlib.Omega.{arith}
 use lib.ListN.{length-set}
 use Rattle.meaning.specs.Table.{table_of}
-use Rattle.rows.proofs.Laws.{state-in, close-words}
+use Rattle.rows.proofs.Laws.{state_in, close-words}
 use borrow.Author.Rules.{rules}
 use Rattle.rows.proofs.close_row.Statement.{statement}
 use Rattle.rows.proofs.close_row.Tie as tie
@@ -31,8 +31,8 @@ slice-read-apply-2 c = search rules
 apply-requires : tie.Need-apply-requires
 apply-requires c κs =
     let s = c.before.before.before.before.before.before in
-    let under = state-in _ _ _ s.requires.1.0 _ _ c.before.before.before.state-at.ensures (omega arith) in
-    let newest = state-in _ _ _ s.requires.1.0 _ _ c.before.before.state-at2.ensures (omega arith) in
+    let under = state_in _ _ _ s.requires.1.0 _ _ c.before.before.before.state-at.ensures (omega arith) in
+    let newest = state_in _ _ _ s.requires.1.0 _ _ c.before.before.state-at2.ensures (omega arith) in
     (s.requires.0, (omega (arith, under, newest), omega (arith, under, newest)))
 
 mul-row : tie.Need-overflow-mul-row

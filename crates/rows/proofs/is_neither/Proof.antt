@@ -3,7 +3,7 @@ use mathlib.Core.Path.{ap, ◌∙◌}
 use Prim.Native.Nat.{ℕ}
 use lib.ListN.{get_or}
 use Rattle.meaning.specs.Masks.{has}
-use Rattle.rows.proofs.Laws.{neither-both, neither-first}
+use Rattle.rows.proofs.Laws.{neither_both, neither_first}
 use borrow.Author.Rules.{rules}
 use Rattle.rows.proofs.is_neither.Statement.{statement}
 use Rattle.rows.proofs.is_neither.Tie as tie
@@ -35,7 +35,7 @@ holds-requires-2 c κs = search rules
 returns : tie.Need-returns
 returns c =
     let s = c.before.before.before.before.before.before.before.before in
-    neither-both
+    neither_both
     (c.before.before.before.before.holds.ensures ∙ ap (λ (i : ℕ). has (get_or s.args.row.now i 0) s.args.s) c.before.before.before.before.before.before.selecting-at.ensures)
     (c.holds2.ensures ∙ ap (λ (i : ℕ). has (get_or s.args.row.now i 0) s.args.s) c.before.before.rejecting-at.ensures)
     c.before.before.before.if1.true
@@ -43,7 +43,7 @@ returns c =
 returns-2 : tie.Need-returns-2
 returns-2 c =
     let s = c.before.before.before.before.before in
-    neither-first
+    neither_first
     (c.before.holds.ensures ∙ ap (λ (i : ℕ). has (get_or s.args.row.now i 0) s.args.s) c.before.before.before.selecting-at.ensures)
     _
     c.if1.false

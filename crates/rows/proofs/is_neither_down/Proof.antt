@@ -1,7 +1,7 @@
 -- `is_neither_down` meets its contract. Assumes nothing.
 use native.Mathlib.Omega.{arith}
 use Rattle.meaning.specs.Table.{table_of}
-use Rattle.rows.proofs.Laws.{state-in, down_holds, neither-both, neither-first}
+use Rattle.rows.proofs.Laws.{state_in, down_holds, neither_both, neither_first}
 use borrow.Author.Rules.{rules}
 use Rattle.rows.proofs.is_neither_down.Statement.{statement}
 use Rattle.rows.proofs.is_neither_down.Tie as tie
@@ -30,7 +30,7 @@ shared-slice-read-in-down c = search rules
 in-down-requires : tie.Need-in-down-requires
 in-down-requires c κs =
     let s = c.before.before.before.before.before.before.before in
-    (s.requires.0, omega (arith, state-in _ _ _ s.requires.1.0 _ _ c.before.before.before.before.state-at.ensures (omega arith)))
+    (s.requires.0, omega (arith, state_in _ _ _ s.requires.1.0 _ _ c.before.before.before.before.state-at.ensures (omega arith)))
 
 rejecting-at-requires : tie.Need-rejecting-at-requires
 rejecting-at-requires c κs = search rules
@@ -44,21 +44,21 @@ shared-slice-read-in-down-2 c = search rules
 in-down-requires-2 : tie.Need-in-down-requires-2
 in-down-requires-2 c κs =
     let s = c.before.before.before.before.before.before.before.before.before.before.before in
-    (s.requires.0, omega (arith, state-in _ _ _ s.requires.1.0 _ _ c.before.before.before.before.before.before.before.before.state-at.ensures (omega arith)))
+    (s.requires.0, omega (arith, state_in _ _ _ s.requires.1.0 _ _ c.before.before.before.before.before.before.before.before.state-at.ensures (omega arith)))
 
 returns : tie.Need-returns
 returns c =
     let s = c.before.before.before.before.before.before.before.before.before.before.before.before in
     let a = c.before.before.before.before.before.before.before.acc-of in
-    let holds = down_holds (table_of s.args.table.now) s.requires.0.formed.few-states s.args.accs.now s.args.row.now s.args.s s.requires.1.1 _ _ _ a.ensures a.type-inv c.before.before.before.before.before.before.before.before.before.state-at.ensures in
-    neither-both (holds _ _ _ c.before.before.before.before.before.before.selecting-at.ensures c.before.before.before.before.in-down.ensures) (holds _ _ _ c.before.before.rejecting-at.ensures c.in-down2.ensures) c.before.before.before.if1.true
+    let holds = down_holds (table_of s.args.table.now) s.requires.0.formed.few_states s.args.accs.now s.args.row.now s.args.s s.requires.1.1 _ _ _ a.ensures a.type-inv c.before.before.before.before.before.before.before.before.before.state-at.ensures in
+    neither_both (holds _ _ _ c.before.before.before.before.before.before.selecting-at.ensures c.before.before.before.before.in-down.ensures) (holds _ _ _ c.before.before.rejecting-at.ensures c.in-down2.ensures) c.before.before.before.if1.true
 
 returns-2 : tie.Need-returns-2
 returns-2 c =
     let s = c.before.before.before.before.before.before.before.before.before in
     let a = c.before.before.before.before.acc-of in
-    let holds = down_holds (table_of s.args.table.now) s.requires.0.formed.few-states s.args.accs.now s.args.row.now s.args.s s.requires.1.1 _ _ _ a.ensures a.type-inv c.before.before.before.before.before.before.state-at.ensures in
-    neither-first (holds _ _ _ c.before.before.before.selecting-at.ensures c.before.in-down.ensures) _ c.if1.false
+    let holds = down_holds (table_of s.args.table.now) s.requires.0.formed.few_states s.args.accs.now s.args.row.now s.args.s s.requires.1.1 _ _ _ a.ensures a.type-inv c.before.before.before.before.before.before.state-at.ensures in
+    neither_first (holds _ _ _ c.before.before.before.selecting-at.ensures c.before.in-down.ensures) _ c.if1.false
 
 pub is-neither-down-spec : {M : Type 1} → statement M
 is-neither-down-spec =

@@ -2,7 +2,7 @@
 use native.Mathlib.Omega.{arith}
 use lib.ListN.{length-set}
 use Rattle.meaning.specs.Table.{table_of}
-use Rattle.rows.proofs.Laws.{marked-in, mark-words}
+use Rattle.rows.proofs.Laws.{marked_in, mark-words}
 use borrow.Author.Rules.{rules}
 use Rattle.rows.proofs.mark_row.Statement.{statement}
 use Rattle.rows.proofs.mark_row.Tie as tie
@@ -22,7 +22,7 @@ slice-read-mark c = simp length-set (omega arith)
 mark-requires : tie.Need-mark-requires
 mark-requires c κs =
     let s = c.before.before.before.before in
-    (s.requires.0, marked-in _ _ _ s.requires.1 _ _ c.before.state-at.ensures)
+    (s.requires.0, marked_in _ _ _ s.requires.1 _ _ c.before.state-at.ensures)
 
 mul-row : tie.Need-overflow-mul-row
 mul-row c = search rules

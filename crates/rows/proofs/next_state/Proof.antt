@@ -2,7 +2,7 @@
 use native.Mathlib.Omega.{arith}
 use lib.ListN.{length}
 use Rattle.meaning.specs.Table.{table_of}
-use Rattle.rows.proofs.Laws.{can-as, state-in, point-state, close-state}
+use Rattle.rows.proofs.Laws.{can_as, state_in, point-state, close-state}
 use borrow.Author.Rules.{rules}
 use Rattle.rows.proofs.next_state.Statement.{statement}
 use Rattle.rows.proofs.next_state.Tie as tie
@@ -22,7 +22,7 @@ enum-known-step c = search rules
 opening-requires : tie.Need-opening-requires
 opening-requires c κs =
     let s = c.before.before.before.before.before.before.before in
-    (s.requires.0, (can-as (table_of s.args.table.now) (length s.args.row.now) s.args.d c.before.step.given.1 s.requires.1.1).0)
+    (s.requires.0, (can_as (table_of s.args.table.now) (length s.args.row.now) s.args.d c.before.step.given.1 s.requires.1.1).0)
 
 enum-known-step-2 : tie.Need-enum-known-step-2
 enum-known-step-2 c = search rules
@@ -30,7 +30,7 @@ enum-known-step-2 c = search rules
 point-requires : tie.Need-point-requires
 point-requires c κs =
     let s = c.before.before.before.before.before.before.before in
-    (s.requires.0, (state-in _ _ _ s.requires.1.0 _ _ c.before.before.before.before.state-at.ensures (omega arith), can-as (table_of s.args.table.now) (length s.args.row.now) s.args.d c.before.step2.given.1 s.requires.1.1))
+    (s.requires.0, (state_in _ _ _ s.requires.1.0 _ _ c.before.before.before.before.state-at.ensures (omega arith), can_as (table_of s.args.table.now) (length s.args.row.now) s.args.d c.before.step2.given.1 s.requires.1.1))
 
 enum_told : tie.Need-enum-told
 enum_told c = search rules
@@ -38,7 +38,7 @@ enum_told c = search rules
 sub-state-at : tie.Need-overflow-sub-state-at
 sub-state-at c =
     let s = c.before.before.before.before.before.before in
-    can-as (table_of s.args.table.now) (length s.args.row.now) s.args.d c.enum_told.given.1 s.requires.1.1
+    can_as (table_of s.args.table.now) (length s.args.row.now) s.args.d c.enum_told.given.1 s.requires.1.1
 
 state-at-requires-2 : tie.Need-state-at-requires-2
 state-at-requires-2 c κs = search rules
@@ -52,8 +52,8 @@ shared-slice-read-apply c = search rules
 apply-requires : tie.Need-apply-requires
 apply-requires c κs =
     let s = c.before.before.before.before.before.before.before.before in
-    let under = state-in _ _ _ s.requires.1.0 _ _ c.before.state-at2.ensures (omega arith) in
-    let newest = state-in _ _ _ s.requires.1.0 _ _ c.before.before.before.before.before.state-at.ensures (omega arith) in
+    let under = state_in _ _ _ s.requires.1.0 _ _ c.before.state-at2.ensures (omega arith) in
+    let newest = state_in _ _ _ s.requires.1.0 _ _ c.before.before.before.before.before.state-at.ensures (omega arith) in
     (s.requires.0, (omega (arith, under, newest), omega (arith, under, newest)))
 
 returns : tie.Need-returns
@@ -71,7 +71,7 @@ returns-3 c =
     let s = c.before.before.before.before.before.before.before.before.before in
     rw c.before.before.before.enum_told.given.1
     (close-state (table_of s.args.table.now) s.args.row.now s.args.d
-    (can-as (table_of s.args.table.now) (length s.args.row.now) s.args.d c.before.before.before.enum_told.given.1 s.requires.1.1)
+    (can_as (table_of s.args.table.now) (length s.args.row.now) s.args.d c.before.before.before.enum_told.given.1 s.requires.1.1)
     _ _ _ c.before.before.state-at2.ensures c.before.before.before.before.before.before.state-at.ensures c.apply.ensures)
 
 pub next-state-spec : {M : Type 1} → statement M

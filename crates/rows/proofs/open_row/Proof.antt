@@ -2,7 +2,7 @@
 use native.Mathlib.Omega.{arith}
 use lib.ListN.{length-set}
 use Rattle.meaning.specs.Table.{table_of}
-use Rattle.rows.proofs.Laws.{state-in, open-words}
+use Rattle.rows.proofs.Laws.{state_in, open-words}
 use borrow.Author.Rules.{rules}
 use Rattle.rows.proofs.open_row.Statement.{statement}
 use Rattle.rows.proofs.open_row.Tie as tie
@@ -28,7 +28,7 @@ slice-read-down c = search rules
 down-requires : tie.Need-down-requires
 down-requires c κs =
     let s = c.before.before.before.before.before.before in
-    (s.requires.0, state-in _ _ _ s.requires.1.0 _ _ c.before.before.before.state-at.ensures (omega arith))
+    (s.requires.0, state_in _ _ _ s.requires.1.0 _ _ c.before.before.before.state-at.ensures (omega arith))
 
 rejecting-at-requires : tie.Need-rejecting-at-requires
 rejecting-at-requires c κs = search rules
@@ -42,7 +42,7 @@ slice-read-down-2 c = search rules
 down-requires-2 : tie.Need-down-requires-2
 down-requires-2 c κs =
     let s = c.before.before.before.before.before.before.before.before.before in
-    (s.requires.0, state-in _ _ _ s.requires.1.0 _ _ c.before.before.before.before.before.before.state-at.ensures (omega arith))
+    (s.requires.0, state_in _ _ _ s.requires.1.0 _ _ c.before.before.before.before.before.before.state-at.ensures (omega arith))
 
 opening-requires : tie.Need-opening-requires
 opening-requires c κs = search rules

@@ -1,7 +1,7 @@
 -- `point_row` meets its contract. Assumes nothing.
 use native.Mathlib.Omega.{arith}
 use Rattle.meaning.specs.Table.{table_of}
-use Rattle.rows.proofs.Laws.{state-in, point-words}
+use Rattle.rows.proofs.Laws.{state_in, point-words}
 use borrow.Author.Rules.{rules}
 use Rattle.rows.proofs.point_row.Statement.{statement}
 use Rattle.rows.proofs.point_row.Tie as tie
@@ -18,7 +18,7 @@ slice-read-point c = search rules
 point-requires : tie.Need-point-requires
 point-requires c κs =
     let s = c.before.before.before.before in
-    (s.requires.0, (state-in _ _ _ s.requires.1.0 _ _ c.before.state-at.ensures (omega arith), omega (arith, s.requires.1.1)))
+    (s.requires.0, (state_in _ _ _ s.requires.1.0 _ _ c.before.state-at.ensures (omega arith), omega (arith, s.requires.1.1)))
 
 mul-row : tie.Need-overflow-mul-row
 mul-row c = search rules

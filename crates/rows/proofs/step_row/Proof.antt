@@ -1,7 +1,7 @@
 -- `step_row` meets its contract, by those of the three. Assumes nothing.
 use lib.ListN.{length}
 use Rattle.meaning.specs.Table.{table_of}
-use Rattle.rows.proofs.Laws.{can-as}
+use Rattle.rows.proofs.Laws.{can_as}
 use borrow.Author.Rules.{rules}
 use Rattle.rows.proofs.step_row.Statement.{statement}
 use Rattle.rows.proofs.step_row.Tie as tie
@@ -12,7 +12,7 @@ enum-known-step c = search rules
 open-row-requires : tie.Need-open-row-requires
 open-row-requires c κs =
     let s = c.before.before.before.before.before.before in
-    (s.requires.0, (s.requires.1.0, can-as (table_of s.args.table.now) (length s.args.row.now) s.args.d c.before.before.step.given.1 s.requires.1.1))
+    (s.requires.0, (s.requires.1.0, can_as (table_of s.args.table.now) (length s.args.row.now) s.args.d c.before.before.step.given.1 s.requires.1.1))
 
 enum-known-step-2 : tie.Need-enum-known-step-2
 enum-known-step-2 c = search rules
@@ -20,7 +20,7 @@ enum-known-step-2 c = search rules
 point-row-requires : tie.Need-point-row-requires
 point-row-requires c κs =
     let s = c.before.before.before.before.before.before in
-    (s.requires.0, (s.requires.1.0, can-as (table_of s.args.table.now) (length s.args.row.now) s.args.d c.before.before.step2.given.1 s.requires.1.1))
+    (s.requires.0, (s.requires.1.0, can_as (table_of s.args.table.now) (length s.args.row.now) s.args.d c.before.before.step2.given.1 s.requires.1.1))
 
 enum_told : tie.Need-enum-told
 enum_told c = search rules
@@ -28,7 +28,7 @@ enum_told c = search rules
 close-row-requires : tie.Need-close-row-requires
 close-row-requires c κs =
     let s = c.before.before.before.before.before in
-    (s.requires.0, (s.requires.1.0, can-as (table_of s.args.table.now) (length s.args.row.now) s.args.d c.before.enum_told.given.1 s.requires.1.1))
+    (s.requires.0, (s.requires.1.0, can_as (table_of s.args.table.now) (length s.args.row.now) s.args.d c.before.enum_told.given.1 s.requires.1.1))
 
 same_length : tie.Need-same-length
 same_length c = search rules

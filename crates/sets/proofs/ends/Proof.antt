@@ -9,8 +9,8 @@ use mathlib.Core.Logic.{⊎_elim}
 use mathlib.Core.Bool.{not}
 use Rattle.meaning.specs.Masks.{added, collect}
 use Rattle.meaning.specs.Table.{table_of}
-use Rattle.bodies.proofs.Fits.{state-fits}
-use Rattle.masks.proofs.Turns.{turn-taken, turn-left}
+use Rattle.bodies.proofs.Fits.{state_fits}
+use Rattle.masks.proofs.Turns.{turn_taken, turn_left}
 use Rattle.sets.proofs.ends.Statement.{statement}
 use Rattle.sets.proofs.ends.Tie as tie
 
@@ -37,7 +37,7 @@ is-final-requires : tie.Need-is-final-requires invariant-loop decreases-loop
 is-final-requires c κs = (c.before.before.before.before.requires, omega arith)
 
 add-requires : tie.Need-add-requires invariant-loop decreases-loop
-add-requires c κs = state-fits _ c.before.before.before.before.before.before.requires c.before.before.before.loop.q (omega arith)
+add-requires c κs = state_fits _ c.before.before.before.before.before.before.requires c.before.before.before.loop.q (omega arith)
 
 add-q : tie.Need-overflow-add-q invariant-loop decreases-loop
 add-q c = omega arith
@@ -53,7 +53,7 @@ loop-again c =
     let h = as_wanted c.before.is-final.result s.args.wanted ∙ ap (λ (b : Bool). cond s.args.wanted b (not b)) c.before.is-final.ensures in (
       omega arith,
       rw add-one
-          (⊎_elim (λ w. turn-taken F h w.0.taken l.invariant.1 (w.2 ∙ w.1.ensures)) (λ w. turn-left F h w.0.left l.invariant.1 w.1) c.if1.branch),
+          (⊎_elim (λ w. turn_taken F h w.0.taken l.invariant.1 (w.2 ∙ w.1.ensures)) (λ w. turn_left F h w.0.left l.invariant.1 w.1) c.if1.branch),
     )
 
 returns : tie.Need-returns invariant-loop decreases-loop

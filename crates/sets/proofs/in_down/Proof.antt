@@ -9,9 +9,9 @@ use borrow.Author.Tests.{lt-ltb, le-ltb}
 use lib.Dec.{ltb}
 use Rattle.meaning.specs.Masks.{all, has}
 use Rattle.meaning.specs.Table.{table_of}
-use Rattle.meaning.proofs.Tests.{all_more, all-passed, all-fails}
-use Rattle.sets.proofs.Member.{not-in-acc, no-state, leads-in, leads-out}
-use Rattle.bodies.proofs.Fits.{apply-fits}
+use Rattle.meaning.proofs.Tests.{all_more, all_passed, all_fails}
+use Rattle.sets.proofs.Member.{not_in_acc, no_state, leads_in, leads_out}
+use Rattle.bodies.proofs.Fits.{apply_fits}
 use Rattle.sets.proofs.in_down.Statement.{statement}
 use Rattle.sets.proofs.in_down.Tie as tie
 
@@ -38,7 +38,7 @@ returns c =
     let state : Bool = ltb l.p t.states in
     let into : Bool = has s.args.x (t.apply s.args.q l.p) in
     let test : ℕ → Bool = λ r. not (has s.args.acc r) || (ltb r t.states && has s.args.x (t.apply s.args.q r)) in
-    sym (all-fails 64 test l.p (omega arith) (no-state c.before.before.holds.ensures state into c.before.if1.true (le-ltb l.p t.states (omega arith))))
+    sym (all_fails 64 test l.p (omega arith) (no_state c.before.before.holds.ensures state into c.before.if1.true (le-ltb l.p t.states (omega arith))))
 
 apply-requires : tie.Need-apply-requires invariant-loop decreases-loop
 apply-requires c κs =
@@ -48,7 +48,7 @@ apply-requires c κs =
 holds-requires-2 : tie.Need-holds-requires-2 invariant-loop decreases-loop
 holds-requires-2 c κs =
     let s = c.before.before.before.before.before.before.before.before in
-    apply-fits _ s.requires.0 c.apply.result s.args.q c.before.before.before.before.before.loop.p c.apply.ensures s.requires.1 (omega arith)
+    apply_fits _ s.requires.0 c.apply.result s.args.q c.before.before.before.before.before.loop.p c.apply.ensures s.requires.1 (omega arith)
 
 returns-2 : tie.Need-returns-2 invariant-loop decreases-loop
 returns-2 c =
@@ -59,7 +59,7 @@ returns-2 c =
     let into : Bool = has s.args.x (t.apply s.args.q l.p) in
     let test : ℕ → Bool = λ r. not (has s.args.acc r) || (ltb r t.states && has s.args.x (t.apply s.args.q r)) in
     let in-x = c.before.holds2.ensures ∙ ap (has s.args.x) c.before.before.apply.ensures in
-    sym (all-fails 64 test l.p (omega arith) (leads-out c.before.before.before.before.before.holds.ensures state into c.before.before.before.before.if1.true (lt-ltb l.p t.states (omega arith)) in-x c.if3.true))
+    sym (all_fails 64 test l.p (omega arith) (leads_out c.before.before.before.before.before.holds.ensures state into c.before.before.before.before.if1.true (lt-ltb l.p t.states (omega arith)) in-x c.if3.true))
 
 add-p : tie.Need-overflow-add-p invariant-loop decreases-loop
 add-p c = omega arith
@@ -77,7 +77,7 @@ loop-again c =
     let test : ℕ → Bool = λ r. not (has s.args.acc r) || (ltb r t.states && has s.args.x (t.apply s.args.q r)) in (
       omega arith,
       all_more l.p test l.invariant.1
-          (⊎_elim (λ w. leads-in c.before.holds.ensures state into w.0.taken (lt-ltb l.p t.states (omega (arith, w.1.left))) (w.3.ensures ∙ ap (has s.args.x) w.2.ensures) w.4.left) (λ w. not-in-acc c.before.holds.ensures state into w.left) c.if1.branch),
+          (⊎_elim (λ w. leads_in c.before.holds.ensures state into w.0.taken (lt-ltb l.p t.states (omega (arith, w.1.left))) (w.3.ensures ∙ ap (has s.args.x) w.2.ensures) w.4.left) (λ w. not_in_acc c.before.holds.ensures state into w.left) c.if1.branch),
     )
 
 returns-3 : tie.Need-returns-3 invariant-loop decreases-loop
@@ -88,7 +88,7 @@ returns-3 c =
     let state : Bool = ltb l.p t.states in
     let into : Bool = has s.args.x (t.apply s.args.q l.p) in
     let test : ℕ → Bool = λ r. not (has s.args.acc r) || (ltb r t.states && has s.args.x (t.apply s.args.q r)) in
-    all-passed 64 l.p test l.invariant.0 (omega arith) l.invariant.1
+    all_passed 64 l.p test l.invariant.0 (omega arith) l.invariant.1
 
 pub in-down-spec : {M : Type 1} → statement M
 in-down-spec =

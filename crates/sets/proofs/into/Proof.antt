@@ -7,8 +7,8 @@ use native.Mathlib.Omega.{arith}
 use mathlib.Core.Logic.{⊎_elim}
 use Rattle.meaning.specs.Masks.{has, added, collect}
 use Rattle.meaning.specs.Table.{table_of}
-use Rattle.bodies.proofs.Fits.{state-fits, apply-fits}
-use Rattle.masks.proofs.Turns.{turn-taken, turn-left}
+use Rattle.bodies.proofs.Fits.{state_fits, apply_fits}
+use Rattle.masks.proofs.Turns.{turn_taken, turn_left}
 use Rattle.sets.proofs.into.Statement.{statement}
 use Rattle.sets.proofs.into.Tie as tie
 
@@ -32,10 +32,10 @@ apply-requires c κs =
 holds-requires : tie.Need-holds-requires invariant-loop decreases-loop
 holds-requires c κs =
     let s = c.before.before.before.before.before in
-    apply-fits _ s.requires.0 c.apply.result s.args.q c.before.before.loop.p c.apply.ensures s.requires.1 (omega arith)
+    apply_fits _ s.requires.0 c.apply.result s.args.q c.before.before.loop.p c.apply.ensures s.requires.1 (omega arith)
 
 add-requires : tie.Need-add-requires invariant-loop decreases-loop
-add-requires c κs = state-fits _ c.before.before.before.before.before.before.before.requires.0 c.before.before.before.before.loop.p (omega arith)
+add-requires c κs = state_fits _ c.before.before.before.before.before.before.before.requires.0 c.before.before.before.before.loop.p (omega arith)
 
 add-p : tie.Need-overflow-add-p invariant-loop decreases-loop
 add-p c = omega arith
@@ -51,7 +51,7 @@ loop-again c =
     let h = c.before.holds.ensures ∙ ap (has s.args.x) c.before.before.apply.ensures in (
       omega arith,
       rw add-one
-          (⊎_elim (λ w. turn-taken F h w.0.taken l.invariant.1 (w.2 ∙ w.1.ensures)) (λ w. turn-left F h w.0.left l.invariant.1 w.1) c.if1.branch),
+          (⊎_elim (λ w. turn_taken F h w.0.taken l.invariant.1 (w.2 ∙ w.1.ensures)) (λ w. turn_left F h w.0.left l.invariant.1 w.1) c.if1.branch),
     )
 
 returns : tie.Need-returns invariant-loop decreases-loop

@@ -7,7 +7,7 @@ use mathlib.Core.Logic.{⊎_elim}
 use borrow.Author.Tests.{eq-eqb, ne_eqb}
 use lib.ListN.{get_or}
 use Rattle.meaning.specs.Masks.{within, added, collect}
-use Rattle.masks.proofs.Turns.{turn-taken, turn-left}
+use Rattle.masks.proofs.Turns.{turn_taken, turn_left}
 use Rattle.sets.proofs.safe.Statement.{statement}
 use Rattle.sets.proofs.safe.Tie as tie
 
@@ -42,7 +42,7 @@ loop-again c =
     let F : ℕ → ℕ = λ z. added z l.q in (
       omega arith,
       rw add-one
-          (⊎_elim (λ w. turn-taken F refl (eq-eqb _ _ w.0.taken) l.invariant.1 (w.2 ∙ w.1.ensures)) (λ w. turn-left F refl (ne_eqb _ _ w.0.left) l.invariant.1 w.1) c.if1.branch),
+          (⊎_elim (λ w. turn_taken F refl (eq-eqb _ _ w.0.taken) l.invariant.1 (w.2 ∙ w.1.ensures)) (λ w. turn_left F refl (ne_eqb _ _ w.0.left) l.invariant.1 w.1) c.if1.branch),
     )
 
 returns : tie.Need-returns invariant-loop decreases-loop

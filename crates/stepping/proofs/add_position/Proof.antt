@@ -6,28 +6,28 @@ use borrow.Author.Rules.{rules}
 use lib.ListN.{length}
 use Rattle.meaning.specs.Table.{table_of}
 use Rattle.places.specs.Places.{row_of}
-use Rattle.places.specs.Memory.{Held, rowIn}
-use Rattle.reports.specs.Reports.{leftOver}
+use Rattle.places.specs.Memory.{Held, row_in}
+use Rattle.reports.specs.Reports.{left_over}
 use Rattle.reports.proofs.Puts.{Put}
-use Rattle.stepping.specs.Stepping.{newOf}
-use Rattle.stepping.proofs.Crowded.{one_left, added-row, added_none, First, first_of, new-words, mark-small, new-as}
+use Rattle.stepping.specs.Stepping.{new_of}
+use Rattle.stepping.proofs.Crowded.{one_left, added_row, added_none, First, first_of, new_words, mark_small, new_as}
 use Rattle.stepping.proofs.add_position.Statement.{statement}
 use Rattle.stepping.proofs.add_position.Tie as tie
 
 -- The row of the new position, and row 0, of which it is a copy.
 abbrev new : tie.Start → Held
-new s = newOf (table_of s.args.table.now) s.args.position (rowIn s.args.d (row_of s.args.w 0 s.args.work.now))
+new s = new_of (table_of s.args.table.now) s.args.position (row_in s.args.d (row_of s.args.w 0 s.args.work.now))
 
 first : (s : tie.Start) → First (table_of s.args.table.now) s.args.w s.args.d s.args.work.now
 first s =
-    first_of (table_of s.args.table.now) s.args.w s.args.d (s.args.left + 1 + length (leftOver (new s))) s.args.work.now s.requires.1.0 (omega arith) s.requires.1.1.1
+    first_of (table_of s.args.table.now) s.args.w s.args.d (s.args.left + 1 + length (left_over (new s))) s.args.work.now s.requires.1.0 (omega arith) s.requires.1.1.1
 
 -- What the report tells, of the new position.
 told : (c : tie.After-report-state) → Put (new c.before.before.before.before.before.before.before.before.before) c.before.before.before.before.before.before.before.before.before.args.count c.before.before.before.before.before.before.before.before.before.args.reports.now c.report-state.result c.report-state.new.1.0
 told c =
     let s = c.before.before.before.before.before.before.before.before.before in
     let a = s.args in
-    let e = new-as (table_of a.table.now) a.w a.d a.work.now (first s) _ _ c.before.before.before.mark.ensures c.before.before.before.before.before.state-at.ensures a.position in
+    let e = new_as (table_of a.table.now) a.w a.d a.work.now (first s) _ _ c.before.before.before.mark.ensures c.before.before.before.before.before.state-at.ensures a.position in
     subst (λ (h : Held). Put h a.count a.reports.now c.report-state.result c.report-state.new.1.0) e c.report-state.ensures
 
 state-at-requires : tie.Need-state-at-requires
@@ -52,7 +52,7 @@ report-state-requires : tie.Need-report-state-requires
 report-state-requires c κs =
     let s = c.before.before.before.before.before.before.before.before in
     let a = s.args in
-    let small = mark-small (table_of a.table.now) a.w a.d a.work.now (first s) _ _ c.before.before.mark.ensures c.before.before.before.before.state-at.ensures s.requires.0.formed in
+    let small = mark_small (table_of a.table.now) a.w a.d a.work.now (first s) _ _ c.before.before.mark.ensures c.before.before.before.before.state-at.ensures s.requires.0.formed in
     rw (first s).size ((s.requires.1.1.0.0, (first s).deep, small), (s.requires.1.1.0.1, s.requires.1.1.0.3))
 
 add-add-row : tie.Need-overflow-add-add-row
@@ -79,8 +79,8 @@ returns c =
     let s = c.before.before.before.before.before.before.before.before.before.before.before.before.before.before.before.before in
     let a = s.args in
     let r = c.before.before.before.before.before.before.before in
-    let l = new-words (table_of a.table.now) a.w a.d a.work.now (first s) a.position in
-    added-row (new s) a.w a.left a.count a.work.now a.reports.now _ _ (told r) _ c.before.before.before.before.if1.true l c.before.before.add_row.ensures
+    let l = new_words (table_of a.table.now) a.w a.d a.work.now (first s) a.position in
+    added_row (new s) a.w a.left a.count a.work.now a.reports.now _ _ (told r) _ c.before.before.before.before.if1.true l c.before.before.add_row.ensures
 
 same-length-3 : tie.Need-same-length-3
 same-length-3 c = search rules

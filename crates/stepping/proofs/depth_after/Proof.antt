@@ -4,14 +4,14 @@ use Prim.Native.Nat.{ℕ, ◌<◌}
 use native.Mathlib.Omega.{arith}
 use borrow.Author.Rules.{rules}
 use Rattle.rows.specs.declared.Step.{Step}
-use Rattle.rows.specs.Steps.{eventOf}
+use Rattle.rows.specs.Steps.{event_of}
 use Rattle.stepping.specs.Stepping.{Moves}
 use Rattle.stepping.proofs.depth_after.Statement.{statement}
 use Rattle.stepping.proofs.depth_after.Tie as tie
 
 -- What is asked of the event, of the step that it is.
-moves-as : (d : ℕ) {x y : Step} → x ≡ y → Moves (eventOf x) d → Moves (eventOf y) d
-moves-as d e h = subst (λ (z : Step). Moves (eventOf z) d) e h
+moves-as : (d : ℕ) {x y : Step} → x ≡ y → Moves (event_of x) d → Moves (event_of y) d
+moves-as d e h = subst (λ (z : Step). Moves (event_of z) d) e h
 
 enum_told : tie.Need-enum-told
 enum_told c = search rules

@@ -5,11 +5,11 @@ use native.Mathlib.Omega.{arith}
 use borrow.Author.Rules.{rules}
 use lib.ListN.{set, length-set, replicate}
 use Rattle.meaning.specs.Table.{table_of}
-use Rattle.meaning.specs.Masks.{accsOf}
-use Rattle.meaning.specs.Rows.{startRow}
-use Rattle.places.specs.Places.{stateAt, selectingAt, rejectingAt, rowsLength}
-use Rattle.places.specs.Memory.{rowsWords}
-use Rattle.stepping.proofs.Whole.{start-words, start-room}
+use Rattle.meaning.specs.Masks.{accs_of}
+use Rattle.meaning.specs.Rows.{start_row}
+use Rattle.places.specs.Places.{state_at, selecting_at, rejecting_at, rows_length}
+use Rattle.places.specs.Memory.{rows_words}
+use Rattle.stepping.proofs.Whole.{start_words, start_room}
 use Rattle.stepping.proofs.start_memory.Statement.{statement}
 use Rattle.stepping.proofs.start_memory.Tie as tie
 
@@ -46,7 +46,7 @@ mul-work-2 c = search rules
 slice-write-work-2 : tie.Need-slice-write-work-2
 slice-write-work-2 c =
     let s = c.before.before.before.before.before.before.before.before.before.before.before.before in
-    simp length-set (omega (arith, c.selecting-at.ensures, c.before.before.before.before.before.before.before.clear.auto.0, s.requires.1.0.2, start-room s.args.rows s.args.depth))
+    simp length-set (omega (arith, c.selecting-at.ensures, c.before.before.before.before.before.before.before.clear.auto.0, s.requires.1.0.2, start_room s.args.rows s.args.depth))
 
 ends-requires-2 : tie.Need-ends-requires-2
 ends-requires-2 c κs = search rules
@@ -63,7 +63,7 @@ mul-work-3 c = search rules
 slice-write-work-3 : tie.Need-slice-write-work-3
 slice-write-work-3 c =
     let s = c.before.before.before.before.before.before.before.before.before.before.before.before.before.before.before in
-    simp length-set (omega (arith, c.rejecting-at.ensures, c.before.before.before.before.before.before.before.before.before.before.clear.auto.0, s.requires.1.0.2, start-room s.args.rows s.args.depth))
+    simp length-set (omega (arith, c.rejecting-at.ensures, c.before.before.before.before.before.before.before.before.before.before.clear.auto.0, s.requires.1.0.2, start_room s.args.rows s.args.depth))
 
 same_length : tie.Need-same-length
 same_length c = search rules
@@ -79,9 +79,9 @@ returns c =
     let selecting = rw (c.before.before.before.before.before.ends.ensures, c.before.before.before.before.before.before.before.before.before.before.before.before.states.ensures, s.requires.1.1) at c.before.before.before.before.safe.ensures in
     let rejecting = rw (c.before.before.ends2.ensures, c.before.before.before.before.before.before.before.before.before.before.before.before.states.ensures, s.requires.1.1) at c.before.safe2.ensures in
     rw (zeros, c.before.before.before.before.before.before.state-at.ensures, c.before.before.before.selecting-at.ensures, c.rejecting-at.ensures)
-    (ap₂ (λ x y. set (set (set (replicate (rowsLength rows depth) 0) (stateAt 0) q) (selectingAt 0) x) (rejectingAt 0) y) selecting rejecting
-    ∙ start-words rows depth q _ _
-    ∙ ap (λ z. rowsWords rows depth (record { run = record { newest = record { state = z; selecting = (startRow t (accsOf t)).newest.selecting; rejecting = (startRow t (accsOf t)).newest.rejecting }; below = [] }; alive = [] })) c.before.before.before.before.before.before.before.start.ensures)
+    (ap₂ (λ x y. set (set (set (replicate (rows_length rows depth) 0) (state_at 0) q) (selecting_at 0) x) (rejecting_at 0) y) selecting rejecting
+    ∙ start_words rows depth q _ _
+    ∙ ap (λ z. rows_words rows depth (record { run = record { newest = record { state = z; selecting = (start_row t (accs_of t)).newest.selecting; rejecting = (start_row t (accs_of t)).newest.rejecting }; below = [] }; alive = [] })) c.before.before.before.before.before.before.before.start.ensures)
 
 pub start-memory-spec : {M : Type 1} → statement M
 start-memory-spec =

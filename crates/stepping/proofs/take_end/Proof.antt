@@ -23,8 +23,8 @@ part-report-ends-end c = search rules
 report-ends-requires : tie.Need-report-ends-requires
 report-ends-requires c κs =
     let s = c.before.before.before.before.before.before.before in
-    let e = c.before.before.before.row-length.ensures in
-    rw (rest_part s.args.work.now c.before.before.before.row-length.result, e) (s.requires.0, (s.requires.1.1.0, ((s.requires.1.0.1, s.requires.1.0.2), s.requires.1.1.1)))
+    let e = c.before.before.before.row_length_lem.ensures in
+    rw (rest_part s.args.work.now c.before.before.before.row_length_lem.result, e) (s.requires.0, (s.requires.1.1.0, ((s.requires.1.0.1, s.requires.1.0.2), s.requires.1.1.1)))
 
 clear-requires : tie.Need-clear-requires
 clear-requires c κs = search rules
@@ -38,8 +38,8 @@ same-length-2 c = search rules
 returns : tie.Need-returns
 returns c =
     let s = c.before.before.before.before.before.before.before.before.before.before.before.before.before.before in
-    let e = c.before.before.before.before.before.before.before.before.before.before.row-length.ensures in
-    (c.before.before.clear.ensures, rw (rest_part s.args.work.now c.before.before.before.before.before.before.before.before.before.before.row-length.result, e) at c.before.before.before.before.before.before.report-ends.ensures)
+    let e = c.before.before.before.before.before.before.before.before.before.before.row_length_lem.ensures in
+    (c.before.before.clear.ensures, rw (rest_part s.args.work.now c.before.before.before.before.before.before.before.before.before.before.row_length_lem.result, e) at c.before.before.before.before.before.before.report-ends.ensures)
 
 pub take-end-spec : {M : Type 1} → statement M
 take-end-spec =

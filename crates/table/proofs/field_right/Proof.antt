@@ -1,7 +1,7 @@
 -- `field_right` meets its contract: the field's bytes are compared with what n and k fix. Assumes nothing.
 use mathlib.Core.Path.{◌∙◌}
 use borrow.Author.Rules.{rules}
-use Rattle.offsets.proofs.Bounds.{place_same, length-same}
+use Rattle.offsets.proofs.Bounds.{place_same, length_same}
 use Rattle.table.proofs.field_right.Statement.{statement}
 use Rattle.table.proofs.field_right.Tie as tie
 
@@ -53,7 +53,7 @@ returns-2 c =
     rw (
       c.before.before.enum-told2.given.1,
       c.before.two_bytes.ensures,
-      c.body_at.ensures ∙ place_same s.requires.1.0.states-are s.requires.1.0.labels-are s.args.i,
+      c.body_at.ensures ∙ place_same s.requires.1.0.states_are s.requires.1.0.labels_are s.args.i,
     )
 
 returns-3 : tie.Need-returns-3
@@ -62,7 +62,7 @@ returns-3 c =
     rw (
       c.before.before.enum-told3.given.1,
       c.before.two-bytes2.ensures,
-      c.body-length.ensures ∙ length-same s.requires.1.0.states-are s.requires.1.0.labels-are s.args.i,
+      c.body-length.ensures ∙ length_same s.requires.1.0.states_are s.requires.1.0.labels_are s.args.i,
     )
 
 pub field-right-spec : {M : Type 1} → statement M

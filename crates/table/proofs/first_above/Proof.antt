@@ -6,7 +6,7 @@ use native.Mathlib.Omega.{arith}
 use borrow.Author.Tests.{lt-ltb, le-ltb}
 use lib.Dec.{ltb}
 use lib.ListN.{get_or}
-use Rattle.meaning.proofs.Search.{Rest, rest-start, rest_end, rest-right, rest-wrong}
+use Rattle.meaning.proofs.Search.{Rest, rest_start, rest_end, rest_right, rest_wrong}
 use Rattle.table.proofs.first_above.Statement.{statement}
 use Rattle.table.proofs.first_above.Tie as tie
 
@@ -23,7 +23,7 @@ passes w j = let a = w.before.before.args in ltb (get_or a.table.now (a.from + j
 loop-holds : tie.Need-loop-init invariant-loop decreases-loop
 loop-holds c =
     let a = c.before.args in
-    (omega arith, rest-start (λ i. i) a.count (λ i. ltb (get_or a.table.now (a.from + i) 0) a.limit) a.count)
+    (omega arith, rest_start (λ i. i) a.count (λ i. ltb (get_or a.table.now (a.from + i) 0) a.limit) a.count)
 
 add_at : tie.Need-overflow-add-at invariant-loop decreases-loop
 add_at c = omega arith
@@ -36,7 +36,7 @@ returns c =
     let w = c.before.before.before in
     let n = w.before.before.args.count in
     let e = le-ltb _ _ (rw c.before.byte.ensures at c.if1.true) in
-    rest-wrong (λ i. i) n (passes w) n w.loop.j w.loop.invariant.1 (omega arith) e
+    rest_wrong (λ i. i) n (passes w) n w.loop.j w.loop.invariant.1 (omega arith) e
 
 add-j : tie.Need-overflow-add-j invariant-loop decreases-loop
 add-j c = omega arith
@@ -49,7 +49,7 @@ loop-again c =
     let w = c.before.before.before in
     let n = w.before.before.args.count in
     let e = lt-ltb _ _ (rw c.before.byte.ensures at c.if1.false) in
-    (omega arith, rest-right (λ i. i) n (passes w) n w.loop.j _ w.loop.invariant.1 (omega arith) e refl)
+    (omega arith, rest_right (λ i. i) n (passes w) n w.loop.j _ w.loop.invariant.1 (omega arith) e refl)
 
 returns-2 : tie.Need-returns-2 invariant-loop decreases-loop
 returns-2 c =

@@ -7,9 +7,9 @@ use Prim.Native.Nat.{ℕ}
 use native.Mathlib.Omega.{arith}
 use borrow.Author.Rules.{rules}
 use borrow.Author.Tests.{ltb-true, ltb-false, lt-ltb, le-ltb}
-use Rattle.bodies.specs.Sound.{statesIn, labelsIn, start_in}
+use Rattle.bodies.specs.Sound.{states_in, labels_in, start_in}
 use Rattle.table.specs.File.{between}
-use Rattle.table.proofs.Header.{below-between, above-between, in_between}
+use Rattle.table.proofs.Header.{below_between, above_between, in_between}
 use Rattle.table.proofs.header_right.Statement.{statement}
 use Rattle.table.proofs.header_right.Tie as tie
 
@@ -17,14 +17,14 @@ abbrev file : tie.After-byte2 → List ℕ
 file c = c.before.before.before.args.table.now
 
 -- n is in range
-states-in : (c : tie.Else2) → between 1 64 (statesIn (file c.before.before)) ≡ true
+states-in : (c : tie.Else2) → between 1 64 (states_in (file c.before.before)) ≡ true
 states-in c =
     let b = c.before.before.before.byte in
     rw (← b.ensures) (in_between 1 64 b.result c.before.if1.false (ltb-false 64 b.result c.if2.false))
 
 -- k is in range
-labels_in : (c : tie.Else4) → between 1 32 (labelsIn (file c.before.before.before.before)) ≡ true
-labels_in c =
+labels_in_lem : (c : tie.Else4) → between 1 32 (labels_in (file c.before.before.before.before)) ≡ true
+labels_in_lem c =
     let b = c.before.before.before.before.byte2 in
     rw (← b.ensures) (in_between 1 32 b.result c.before.if3.false (ltb-false 32 b.result c.if4.false))
 
@@ -38,16 +38,16 @@ returns : tie.Need-returns
 returns c =
     let n = c.before.before.byte.result in
     rw (← c.before.before.byte.ensures)
-    (⊎_elim (λ w. simp (below-between 1 64 n w.taken))
-    (λ w. simp (above-between 1 64 n w.0.left (ltb-true 64 n w.1.taken)))
+    (⊎_elim (λ w. simp (below_between 1 64 n w.taken))
+    (λ w. simp (above_between 1 64 n w.0.left (ltb-true 64 n w.1.taken)))
     c.if1.branch)
 
 returns-2 : tie.Need-returns-2
 returns-2 c =
     let k = c.before.before.before.byte2.result in
     rw (← c.before.before.before.byte2.ensures)
-    (⊎_elim (λ w. simp (states-in c.before, below-between 1 32 k w.taken))
-    (λ w. simp (states-in c.before, above-between 1 32 k w.0.left (ltb-true 32 k w.1.taken)))
+    (⊎_elim (λ w. simp (states-in c.before, below_between 1 32 k w.taken))
+    (λ w. simp (states-in c.before, above_between 1 32 k w.0.left (ltb-true 32 k w.1.taken)))
     c.if3.branch)
 
 byte-requires-3 : tie.Need-byte-requires-3
@@ -57,7 +57,7 @@ returns-3 : tie.Need-returns-3
 returns-3 c =
     let d = c.before.before in
     let f = file d.before.before.before.before in
-    simp (states-in d.before.before, labels_in d, le-ltb (start_in f) (statesIn f) (omega arith))
+    simp (states-in d.before.before, labels_in_lem d, le-ltb (start_in f) (states_in f) (omega arith))
 
 byte-requires-4 : tie.Need-byte-requires-4
 byte-requires-4 c κs = search rules
@@ -66,7 +66,7 @@ returns-4 : tie.Need-returns-4
 returns-4 c =
     let d = c.before.before.before in
     let f = file d.before.before.before.before in
-    simp (c.byte4.ensures, states-in d.before.before, labels_in d, lt-ltb (start_in f) (statesIn f) (omega arith))
+    simp (c.byte4.ensures, states-in d.before.before, labels_in_lem d, lt-ltb (start_in f) (states_in f) (omega arith))
 
 pub header-right-spec : {M : Type 1} → statement M
 header-right-spec =

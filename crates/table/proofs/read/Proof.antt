@@ -6,12 +6,12 @@ use Prim.Native.Nat.{ℕ, ◌<◌, ◌≤◌}
 use borrow.Author.Rules.{rules}
 use borrow.Author.Tests.{lt-ltb, le-ltb, not-true, not-false, eq-eqb, ne_eqb}
 use native.Mathlib.Omega.{arith}
-use Rattle.meaning.specs.Table.{bodyAt}
-use Rattle.meaning.proofs.Search.{some-wrong, none-wrong}
-use Rattle.bodies.specs.Sound.{statesIn, labelsIn}
-use Rattle.table.specs.File.{Sizes, isShort, headerRight, entryRight, contentsRight, lengthRight, bodyRight, wrongEntry, wrongBody}
+use Rattle.meaning.specs.Table.{body_at}
+use Rattle.meaning.proofs.Search.{some_wrong, none_wrong}
+use Rattle.bodies.specs.Sound.{states_in, labels_in}
+use Rattle.table.specs.File.{Sizes, is_short, header_right, entry_right, contents_right, length_right, body_right, wrong_entry, wrong_body}
 use Rattle.offsets.proofs.Bounds.{place_same}
-use Rattle.table.proofs.Header.{sizes-read}
+use Rattle.table.proofs.Header.{sizes_read}
 use Rattle.table.proofs.read.Statement.{statement}
 use Rattle.table.proofs.read.Tie as tie
 
@@ -19,33 +19,33 @@ abbrev file : tie.Else1 → List ℕ
 file c = c.before.before.args.table.now
 
 -- line 1 does not apply
-long : (c : tie.Else1) → isShort (file c) ≡ false
+long : (c : tie.Else1) → is_short (file c) ≡ false
 long c = le-ltb _ 29 c.if1.false
 
 -- nor does line 2
-header : (c : tie.Else2) → headerRight (file c.before.before) ≡ true
+header : (c : tie.Else2) → header_right (file c.before.before) ≡ true
 header c = sym c.before.header-right.ensures ∙ not-false _ c.if2.false
 
 -- n and k are the file's, and in range
 sized : (c : tie.After-byte2) → Sizes (file c.before.before.before.before) c.before.byte.result c.byte2.result
-sized c = sizes-read _ (header c.before.before) _ _ c.before.byte.ensures c.byte2.ensures
+sized c = sizes_read _ (header c.before.before) _ _ c.before.byte.ensures c.byte2.ensures
 
 -- nor does line 3
-contents : (c : tie.Else3) → contentsRight (file c.before.before.before.before.before.before) ≡ true
+contents : (c : tie.Else3) → contents_right (file c.before.before.before.before.before.before) ≡ true
 contents c =
     let f = file c.before.before.before.before.before.before in
-    let l : 5 ≤ wrongEntry f = omega (arith, c.if3.false, c.before.wrong-entry.ensures) in
-    none-wrong 5 (entryRight f) l
+    let l : 5 ≤ wrong_entry f = omega (arith, c.if3.false, c.before.wrong-entry.ensures) in
+    none_wrong 5 (entry_right f) l
 
 -- the length that n and k fix
 length-told : (c : tie.After-file-length) → let f = file c.before.before.before.before.before.before.before in
-    c.file-length.result ≡ bodyAt (statesIn f) (labelsIn f) 5
+    c.file-length.result ≡ body_at (states_in f) (labels_in f) 5
 length-told c =
     let d = c.before.before.before in
     c.file-length.ensures ∙ place_same d.before.byte.ensures d.byte2.ensures 5
 
 -- nor does line 4
-long-enough : (c : tie.Else4) → lengthRight (file c.before.before.before.before.before.before.before.before) ≡ true
+long-enough : (c : tie.Else4) → length_right (file c.before.before.before.before.before.before.before.before) ≡ true
 long-enough c = eq-eqb _ _ (c.if4.false ∙ length-told c.before)
 
 returns : tie.Need-returns
@@ -76,17 +76,17 @@ returns-3 : tie.Need-returns-3
 returns-3 c =
     let h = c.before.before.before.before.before in
     let f = file h.before.before in
-    let l : wrongEntry f < 5 = omega (arith, c.before.if3.true, c.before.before.wrong-entry.ensures) in
+    let l : wrong_entry f < 5 = omega (arith, c.before.if3.true, c.before.before.wrong-entry.ensures) in
     rw (
       long h.before.before,
       header h,
-      some-wrong 5 (entryRight f) l,
+      some_wrong 5 (entry_right f) l,
       c.wrong-field.ensures,
       c.before.before.wrong-entry.ensures,
     )
 
 file-length-requires : tie.Need-file-length-requires
-file-length-requires c κs = let s = sized c.before.before in (s.few-states, s.few-labels)
+file-length-requires c κs = let s = sized c.before.before in (s.few_states, s.few_labels)
 
 returns-4 : tie.Need-returns-4
 returns-4 c =
@@ -114,13 +114,13 @@ returns-5 c =
     let d = c.before.before.before in
     let h = d.before.before.before.before.before.before in
     let f = file h.before.before in
-    let l : wrongBody f < 5 = omega (arith, c.before.if5.true, c.before.before.wrong-body.ensures) in
+    let l : wrong_body f < 5 = omega (arith, c.before.if5.true, c.before.before.wrong-body.ensures) in
     rw (
       long h.before.before,
       header h,
       contents d.before.before,
       long-enough d,
-      some-wrong 5 (bodyRight f) l,
+      some_wrong 5 (body_right f) l,
       c.wrong_byte.ensures,
       c.before.before.wrong-body.ensures,
     )
@@ -130,13 +130,13 @@ returns-6 c =
     let d = c.before.before in
     let h = d.before.before.before.before.before.before in
     let f = file h.before.before in
-    let l : 5 ≤ wrongBody f = omega (arith, c.if5.false, c.before.wrong-body.ensures) in
+    let l : 5 ≤ wrong_body f = omega (arith, c.if5.false, c.before.wrong-body.ensures) in
     rw (
       long h.before.before,
       header h,
       contents d.before.before,
       long-enough d,
-      none-wrong 5 (bodyRight f) l,
+      none_wrong 5 (body_right f) l,
     ) (cc)
 
 pub read_spec : {M : Type 1} → statement M

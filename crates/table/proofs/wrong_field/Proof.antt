@@ -3,13 +3,13 @@ use mathlib.Core.Bool.{true}
 use mathlib.Core.Path.{◌≡◌, sym, ◌∙◌}
 use borrow.Author.Rules.{rules}
 use borrow.Author.Tests.{not-true, not-false}
-use Rattle.table.specs.File.{fieldRight}
+use Rattle.table.specs.File.{field_right}
 use Rattle.table.specs.declared.Field.TheVariants.{Kind}
 use Rattle.table.proofs.wrong_field.Statement.{statement}
 use Rattle.table.proofs.wrong_field.Tie as tie
 
 -- the kind is right
-kind : (c : tie.Else1) → fieldRight c.before.before.before.args.table.now c.before.before.before.args.entry Kind ≡ true
+kind : (c : tie.Else1) → field_right c.before.before.before.args.table.now c.before.before.before.args.entry Kind ≡ true
 kind c = sym c.before.field-right.ensures ∙ not-false _ c.if1.false
 
 field-right-requires : tie.Need-field-right-requires

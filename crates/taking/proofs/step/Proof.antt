@@ -7,26 +7,26 @@ use borrow.Author.Tests.{ltb-false}
 use lib.Dec.{ltb}
 use lib.ListN.{length, take}
 use Rattle.meaning.specs.Table.{table_of}
-use Rattle.meaning.specs.Masks.{accsOf}
-use Rattle.meaning.specs.Streams.{openedBy}
-use Rattle.meaning.specs.Lent.{onFront}
-use Rattle.places.specs.Places.{rowsPart}
-use Rattle.places.specs.Memory.{Memory, workWords}
-use Rattle.rows.specs.Steps.{eventOf}
-use Rattle.reports.specs.Reports.{left_of, reportsOf}
-use Rattle.stepping.specs.Stepping.{stepMemory, leftMemory, countsOf}
+use Rattle.meaning.specs.Masks.{accs_of}
+use Rattle.meaning.specs.Streams.{opened_by}
+use Rattle.meaning.specs.Lent.{on_front}
+use Rattle.places.specs.Places.{rows_part}
+use Rattle.places.specs.Memory.{Memory, work_words}
+use Rattle.rows.specs.Steps.{event_of}
+use Rattle.reports.specs.Reports.{left_of, reports_of}
+use Rattle.stepping.specs.Stepping.{step_memory, left_memory, counts_of}
 use Rattle.stepping.proofs.Kept.{moves_of}
-use Rattle.answers.specs.Record.{withAlive}
+use Rattle.answers.specs.Record.{with_alive}
 use Rattle.answers.specs.Answers.{taken_of}
-use Rattle.taking.specs.Calls.{memoryOf, labelsOf, stepped}
-use Rattle.taking.proofs.Taking.{step_same, room-refused, room-taken}
+use Rattle.taking.specs.Calls.{memory_of, labels_of, stepped}
+use Rattle.taking.proofs.Taking.{step_same, room_refused, room_taken}
 use Rattle.taking.proofs.step.Statement.{statement}
 use Rattle.taking.proofs.step.Tie as tie
 
 -- What is lent for the count are the rows' words.
 rows-lent : (c : tie.After-rows-length) → let a = c.before.before.before.before.args in
-    take c.rows-length.result a.work.now ≡ rowsPart a.r.rows a.r.allowed a.work.now
-rows-lent c = ap (λ (n : ℕ). take n c.before.before.before.before.args.work.now) c.rows-length.ensures
+    take c.rows_length_lem.result a.work.now ≡ rows_part a.r.rows a.r.allowed a.work.now
+rows-lent c = ap (λ (n : ℕ). take n c.before.before.before.before.args.work.now) c.rows_length_lem.ensures
 
 -- What the count told.
 module _ (c : tie.After-is-crowded) where
@@ -34,18 +34,18 @@ module _ (c : tie.After-is-crowded) where
   start = c.before.before.before.before.before.before
 
   counted : let a = start.args in
-      c.is-crowded.result ≡ ltb a.r.rows (length (left_of (stepMemory (table_of a.table.now) a.accs.now (eventOf a.step) a.r.positions (memoryOf a.r a.work.now)).alive))
+      c.is-crowded.result ≡ ltb a.r.rows (length (left_of (step_memory (table_of a.table.now) a.accs.now (event_of a.step) a.r.positions (memory_of a.r a.work.now)).alive))
   counted = rw (rows-lent c.before.before) at (c.is-crowded.ensures start.args.r.positions)
 
   -- The sets that are given step as the table's.
-  same : let a = start.args in let t = table_of a.table.now in let m = memoryOf a.r a.work.now in
-      stepMemory t a.accs.now (eventOf a.step) a.r.positions m ≡ stepMemory t (accsOf t) (eventOf a.step) a.r.positions m
+  same : let a = start.args in let t = table_of a.table.now in let m = memory_of a.r a.work.now in
+      step_memory t a.accs.now (event_of a.step) a.r.positions m ≡ step_memory t (accs_of t) (event_of a.step) a.r.positions m
   same =
       let a = start.args in
-      step_same (table_of a.table.now) (eventOf a.step) a.r.positions (memoryOf a.r a.work.now) a.accs.now start.pre.1.1.1.1
+      step_same (table_of a.table.now) (event_of a.step) a.r.positions (memory_of a.r a.work.now) a.accs.now start.pre.1.1.1.1
 
   crowd : (b : Bool) → c.is-crowded.result ≡ b → let a = start.args in
-      ltb a.r.rows (stepped (table_of a.table.now) a.r a.work.now (eventOf a.step)).next.alive ≡ b
+      ltb a.r.rows (stepped (table_of a.table.now) a.r a.work.now (event_of a.step)).next.alive ≡ b
   crowd b e = sym (counted ∙ ap (λ m. ltb start.args.r.rows (length (left_of m.alive))) same) ∙ e
 
 rows-length-requires : tie.Need-rows-length-requires
@@ -56,7 +56,7 @@ slice-reshare-prefix-is-crowded c = search rules
 
 slice-aggregate-is-crowded : tie.Need-slice-aggregate-is-crowded
 slice-aggregate-is-crowded c =
-    c.before.rows-length.ensures ∙ sym c.before.before.before.before.before.requires.1.0.rows.size ∙ sym (ap length (rows-lent c.before))
+    c.before.rows_length_lem.ensures ∙ sym c.before.before.before.before.before.requires.1.0.rows.size ∙ sym (ap length (rows-lent c.before))
 
 is-crowded-requires : tie.Need-is-crowded-requires
 is-crowded-requires c κs =
@@ -73,7 +73,7 @@ returns : tie.Need-returns
 returns c =
     let k = c.before.before in
     let a = k.before.before.before.before.before.before.args in
-    let told = room-refused a.r (stepped (table_of a.table.now) a.r a.work.now (eventOf a.step)) (crowd k true c.before.if1.true) a.work.now a.reports.now in
+    let told = room_refused a.r (stepped (table_of a.table.now) a.r a.work.now (event_of a.step)) (crowd k true c.before.if1.true) a.work.now a.reports.now in
     (c.refused.ensures ∙ told.0, (told.1, told.2))
 
 take-requires : tie.Need-take-requires
@@ -86,7 +86,7 @@ take-requires c κs =
 step-record-requires : tie.Need-step-record-requires
 step-record-requires c κs =
     let s = c.before.before.before.before.before.before.before.before.before.before.before.before.before.before in
-    (moves_of (table_of s.args.table.now) s.args.r.allowed s.args.r.depth (eventOf s.args.step) s.requires.1.0.rows.few-levels s.requires.1.1.0.0, s.requires.1.1.0.1)
+    (moves_of (table_of s.args.table.now) s.args.r.allowed s.args.r.depth (event_of s.args.step) s.requires.1.0.rows.few_levels s.requires.1.1.0.0, s.requires.1.1.0.1)
 
 with-alive-requires : tie.Need-with-alive-requires
 with-alive-requires c κs = search rules
@@ -104,15 +104,15 @@ returns-2 : tie.Need-returns-2
 returns-2 c =
     let k = c.before.before.before.before.before.before.before.before.before.before.before in
     let a = k.before.before.before.before.before.before.args in
-    let after = stepped (table_of a.table.now) a.r a.work.now (eventOf a.step) in
+    let after = stepped (table_of a.table.now) a.r a.work.now (event_of a.step) in
     let g = c.before.before.before.before.before.before.before.take in
-    let told = room-taken a.r after (crowd k false c.before.before.before.before.before.before.before.before.before.before.if1.false) a.work.now a.reports.now in
-    let counts = g.ensures.0 ∙ ap countsOf (same k) in
-    let next = c.before.with-alive.ensures ∙ ap₂ withAlive (ap (λ x. x.alive) counts) c.before.before.step-record.ensures in (
+    let told = room_taken a.r after (crowd k false c.before.before.before.before.before.before.before.before.before.before.if1.false) a.work.now a.reports.now in
+    let counts = g.ensures.0 ∙ ap counts_of (same k) in
+    let next = c.before.with-alive.ensures ∙ ap₂ with_alive (ap (λ x. x.alive) counts) c.before.before.step-record.ensures in (
       c.taken.ensures ∙ ap₂ taken_of next (ap (λ x. x.reports) counts) ∙ told.0,
       (
-        g.ensures.1.0 ∙ ap (λ m. workWords a.r.rows a.r.allowed (leftMemory m) (openedBy (labelsOf a.r a.work.now) (eventOf a.step))) (same k) ∙ told.1,
-        g.ensures.1.1 ∙ ap (λ (m : Memory). onFront (reportsOf m.alive) a.reports.now) (same k) ∙ told.2,
+        g.ensures.1.0 ∙ ap (λ m. work_words a.r.rows a.r.allowed (left_memory m) (opened_by (labels_of a.r a.work.now) (event_of a.step))) (same k) ∙ told.1,
+        g.ensures.1.1 ∙ ap (λ (m : Memory). on_front (reports_of m.alive) a.reports.now) (same k) ∙ told.2,
       ),
     )
 

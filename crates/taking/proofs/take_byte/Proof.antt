@@ -6,17 +6,17 @@ use borrow.Author.Rules.{rules}
 use lib.ListN.{length}
 use Rattle.meaning.specs.Table.{table_of}
 use Rattle.meaning.specs.Refusals.{first_of}
-use Rattle.bodies.specs.Sound.{labelsIn}
-use Rattle.rows.specs.Steps.{eventOf}
+use Rattle.bodies.specs.Sound.{labels_in}
+use Rattle.rows.specs.Steps.{event_of}
 use Rattle.answers.specs.declared.Event.{Event}
-use Rattle.answers.specs.Bytes.{meaningOf}
+use Rattle.answers.specs.Bytes.{meaning_of}
 use Rattle.judge.specs.declared.Judged.{Judged}
 use Rattle.judge.specs.declared.Judged.TheVariants.{Fine}
-use Rattle.judge.specs.Judging.{eventLines, judgedLines, newestWord}
-use Rattle.judge.proofs.Cleared.{clear-judged, clear-passed}
+use Rattle.judge.specs.Judging.{event_lines, judged_lines, newest_word}
+use Rattle.judge.proofs.Cleared.{clear-judged, clear_passed}
 use Rattle.judge.proofs.Passed.{event-passed}
 use Rattle.taking.specs.Calls.{AccsIf, opens, step_of, taking}
-use Rattle.taking.proofs.Taking.{NoEnd, event-refused, event-by, taking_step, step-opens, step-ready, end-ready}
+use Rattle.taking.proofs.Taking.{NoEnd, event_refused, event_by, taking_step, step_opens, step_ready, end_ready}
 use Rattle.taking.proofs.take_byte.Statement.{statement}
 use Rattle.taking.proofs.take_byte.Tie as tie
 
@@ -26,17 +26,17 @@ module _ (c : tie.After-judge-event) where
   start = c.before.before.before.before.before.before.before
 
   abbrev means : Event
-  means = meaningOf start.args.byte
+  means = meaning_of start.args.byte
 
   event-is : c.before.before.before.event-of.result ≡ means
   event-is = c.before.before.before.event-of.ensures
 
-  told : (j : Judged) → c.judge-event.result ≡ j → let a = start.args in first_of (judgedLines a.table.now a.r a.work.now (length a.reports.now) means) Fine ≡ j
+  told : (j : Judged) → c.judge-event.result ≡ j → let a = start.args in first_of (judged_lines a.table.now a.r a.work.now (length a.reports.now) means) Fine ≡ j
   told j e =
       let a = start.args in
-      let x : ℕ = newestWord a.r a.work.now in
+      let x : ℕ = newest_word a.r a.work.now in
       sym (clear-judged a.table.now a.r a.work.now (length a.reports.now) start.pre.0 means)
-      ∙ ap₂ (λ (k : ℕ) (e : Event). first_of (eventLines k a.r x e) Fine) (sym c.before.before.labels.ensures) (sym event-is)
+      ∙ ap₂ (λ (k : ℕ) (e : Event). first_of (event_lines k a.r x e) Fine) (sym c.before.before.labels.ensures) (sym event-is)
       ∙ sym c.judge-event.ensures ∙ e
 
 event-of-requires : tie.Need-event-of-requires
@@ -46,14 +46,14 @@ labels-requires : tie.Need-labels-requires
 labels-requires c κs =
     let s = c.before.before.before.before in
     let a = s.args in
-    (clear-passed a.table.now a.r a.work.now (length a.reports.now) s.requires.0).sound
+    (clear_passed a.table.now a.r a.work.now (length a.reports.now) s.requires.0).sound
 
 judge-event-requires : tie.Need-judge-event-requires
 judge-event-requires c κs =
     let s = c.before.before.before.before.before.before in
     let a = s.args in
-    let p = (clear-passed a.table.now a.r a.work.now (length a.reports.now) s.requires.0).called in
-    (p.few-rows, p.few-levels, p.deep, p.size)
+    let p = (clear_passed a.table.now a.r a.work.now (length a.reports.now) s.requires.0).called in
+    (p.few_rows, p.few_levels, p.deep, p.size)
 
 enum-known-judged : tie.Need-enum-known-judged
 enum-known-judged c = search rules
@@ -68,7 +68,7 @@ returns : tie.Need-returns
 returns c =
     let k = c.before.before.before.before in
     let a = (start k).args in
-    let g = event-refused a.table.now a.r a.work.now a.reports.now a.byte _ (told k _ c.before.before.judged.given.1) in
+    let g = event_refused a.table.now a.r a.work.now a.reports.now a.byte _ (told k _ c.before.before.judged.given.1) in
     (c.refused.ensures ∙ g.0, g.1)
 
 enum_told : tie.Need-enum-told
@@ -81,7 +81,7 @@ end-requires : tie.Need-end-requires
 end-requires c κs =
     let k = c.before.before.before.before.before.before in
     let a = (start k).args in
-    end-ready a.table.now a.work.now a.r (length a.reports.now) (means k) (told k Fine c.before.before.before.before.enum_told.given.1) (sym (event-is k) ∙ c.before.before.enum-told2.given.1)
+    end_ready a.table.now a.work.now a.r (length a.reports.now) (means k) (told k Fine c.before.before.before.before.enum_told.given.1) (sym (event-is k) ∙ c.before.before.enum-told2.given.1)
 
 same-length-2 : tie.Need-same-length-2
 same-length-2 c = search rules
@@ -94,7 +94,7 @@ returns-2 c =
     let e = c.before.before.before.before in
     let k = e.before.before.before.before.before.before.before in
     let a = (start k).args in
-    event-by a.table.now a.r a.work.now a.reports.now a.byte _ (ap (taking (table_of a.table.now) a.r a.work.now) (sym e.before.before.before.enum-told2.given.1 ∙ event-is k)) (told k Fine e.before.before.before.before.before.enum_told.given.1) _ _ _ e.end.ensures
+    event_by a.table.now a.r a.work.now a.reports.now a.byte _ (ap (taking (table_of a.table.now) a.r a.work.now) (sym e.before.before.before.enum-told2.given.1 ∙ event-is k)) (told k Fine e.before.before.before.before.before.enum_told.given.1) _ _ _ e.end.ensures
 
 step-of-requires : tie.Need-step-of-requires
 step-of-requires c κs = search rules
@@ -104,7 +104,7 @@ module _ (c : tie.After-step-of) where
   abbrev judged : tie.After-judge-event
   judged = c.before.before.before.before.before.before
 
-  passes : let a = (start judged).args in first_of (judgedLines a.table.now a.r a.work.now (length a.reports.now) (means judged)) Fine ≡ Fine
+  passes : let a = (start judged).args in first_of (judged_lines a.table.now a.r a.work.now (length a.reports.now) (means judged)) Fine ≡ Fine
   passes = told judged Fine c.before.before.before.before.enum_told.given.1
 
   no_end : NoEnd (means judged)
@@ -118,8 +118,8 @@ step-requires c κs =
     let k = judged c in
     let a = (start k).args in
     let t = table_of a.table.now in
-    let g = step-ready a.table.now a.work.now a.r (length a.reports.now) (means k) (passes c) (no_end c) in
-    let accs : AccsIf t (opens (eventOf (step_of (means k)))) a.accs.now = subst (λ (b : Bool). AccsIf t b a.accs.now) (sym (step-opens (means k))) (start k).pre.1 in
+    let g = step_ready a.table.now a.work.now a.r (length a.reports.now) (means k) (passes c) (no_end c) in
+    let accs : AccsIf t (opens (event_of (step_of (means k)))) a.accs.now = subst (λ (b : Bool). AccsIf t b a.accs.now) (sym (step_opens (means k))) (start k).pre.1 in
     rw (step_is c) (g.0, (g.1.0, (g.1.1.0, (g.1.1.1, accs))))
 
 same-length-4 : tie.Need-same-length-4
@@ -134,8 +134,8 @@ returns-3 c =
     let k = judged s in
     let a = (start k).args in
     let f = a.table.now in
-    let is = taking_step (table_of f) a.r a.work.now (labelsIn f) (means k) (no_end s) (event-passed f a.work.now a.r (length a.reports.now) (means k) (passes s)) in
-    event-by f a.r a.work.now a.reports.now a.byte _ is (passes s) _ _ _ (rw (step_is s) at c.before.before.before.before.step.ensures)
+    let is = taking_step (table_of f) a.r a.work.now (labels_in f) (means k) (no_end s) (event-passed f a.work.now a.r (length a.reports.now) (means k) (passes s)) in
+    event_by f a.r a.work.now a.reports.now a.byte _ is (passes s) _ _ _ (rw (step_is s) at c.before.before.before.before.step.ensures)
 
 pub take-byte-spec : {M : Type 1} → statement M
 take-byte-spec =

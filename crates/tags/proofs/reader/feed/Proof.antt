@@ -5,16 +5,16 @@ use Prim.Native.Nat.{ℕ, ◌-◌, ◌≤◌}
 use native.Mathlib.Omega.{arith}
 use borrow.Author.Rules.{rules}
 use lib.ListN.{length, length-set}
-use Rattle.tags.specs.Cursors.{cursorStep}
+use Rattle.tags.specs.Cursors.{cursor_step}
 use Rattle.meaning.proofs.Lent.{put_one}
-use Rattle.tags.proofs.Pieces.{Holds, holds-none, holds-length}
-use Rattle.tags.proofs.Cursoring.{comes-all, comes-fault, comes-short, holds-answer, holds-event, holds-nothing}
+use Rattle.tags.proofs.Pieces.{Holds, holds_none, holds_length}
+use Rattle.tags.proofs.Cursoring.{comes_all, comes_fault, comes_short, holds_answer, holds_event, holds_nothing}
 use Rattle.tags.proofs.reader.feed.Statement.{statement}
 use Rattle.tags.proofs.reader.feed.Tie as tie
 
 abbrev invariant-loop : tie.invariant-loop
 invariant-loop names piece out₀ at₀ taken₀ given₀ out at taken given =
-    (taken ≤ length piece) × (given ≤ length out₀) × (length out ≡ length out₀) × Holds (cursorStep names) at₀ piece out₀ out at taken given
+    (taken ≤ length piece) × (given ≤ length out₀) × (length out ≡ length out₀) × Holds (cursor_step names) at₀ piece out₀ out at taken given
 
 abbrev decreases-loop : tie.decreases-loop
 decreases-loop names piece out₀ at₀ taken₀ given₀ out at taken given = length piece - taken
@@ -22,7 +22,7 @@ decreases-loop names piece out₀ at₀ taken₀ given₀ out at taken given = l
 loop-holds : tie.Need-loop-init invariant-loop decreases-loop
 loop-holds c =
     let a = c.before.before.before.args in
-    (omega arith, omega arith, refl, holds-none (cursorStep a.names.now) a.cursor a.piece.now a.out.now)
+    (omega arith, omega arith, refl, holds_none (cursor_step a.names.now) a.cursor a.piece.now a.out.now)
 
 shared-slice-read-byte : tie.Need-shared-slice-read-byte invariant-loop decreases-loop
 shared-slice-read-byte c = omega arith
@@ -41,7 +41,7 @@ made-requires c κs = search rules
 
 returns : tie.Need-returns invariant-loop decreases-loop
 returns c =
-    let x = holds-answer c.before.before.before.before.before.before.before.before.before.before.before.args.names.now c.before.before.before.before.before.before.before.before.before.before.before.args.cursor c.before.before.before.before.before.before.before.before.before.before.before.args.piece.now c.before.before.before.before.before.before.before.before.before.before.before.args.out.now c.before.before.before.before.before.before.before.loop.taken c.before.before.before.before.before.before.before.loop.given c.before.before.before.before.before.before.before.loop.invariant.3 _ (comes-fault c.before.before.before.before.before.before.before.before.before.before.before.args.names.now c.before.before.before.before.before.before.before.before.before.before.before.args.cursor (length c.before.before.before.before.before.before.before.before.before.before.before.args.out.now) c.before.before.before.before.before.before.before.before.before.before.before.args.piece.now c.before.before.before.before.before.before.before.loop.taken c.before.before.before.before.before.before.before.loop.given c.before.before.before.before.before.before.before.loop.invariant.3.so_far (omega arith) c.before.before.before.before.step.ensures c.before.before.outcome.given.1) in
+    let x = holds_answer c.before.before.before.before.before.before.before.before.before.before.before.args.names.now c.before.before.before.before.before.before.before.before.before.before.before.args.cursor c.before.before.before.before.before.before.before.before.before.before.before.args.piece.now c.before.before.before.before.before.before.before.before.before.before.before.args.out.now c.before.before.before.before.before.before.before.loop.taken c.before.before.before.before.before.before.before.loop.given c.before.before.before.before.before.before.before.loop.invariant.3 _ (comes_fault c.before.before.before.before.before.before.before.before.before.before.before.args.names.now c.before.before.before.before.before.before.before.before.before.before.before.args.cursor (length c.before.before.before.before.before.before.before.before.before.before.before.args.out.now) c.before.before.before.before.before.before.before.before.before.before.before.args.piece.now c.before.before.before.before.before.before.before.loop.taken c.before.before.before.before.before.before.before.loop.given c.before.before.before.before.before.before.before.loop.invariant.3.so_far (omega arith) c.before.before.before.before.step.ensures c.before.before.outcome.given.1) in
     (c.made.ensures ∙ x.0, x.1)
 
 enum-known-outcome-2 : tie.Need-enum-known-outcome-2 invariant-loop decreases-loop
@@ -55,7 +55,7 @@ made-requires-2 c κs = search rules
 
 returns-2 : tie.Need-returns-2 invariant-loop decreases-loop
 returns-2 c =
-    let x = holds-answer c.before.before.before.before.before.before.before.before.before.before.before.before.args.names.now c.before.before.before.before.before.before.before.before.before.before.before.before.args.cursor c.before.before.before.before.before.before.before.before.before.before.before.before.args.piece.now c.before.before.before.before.before.before.before.before.before.before.before.before.args.out.now c.before.before.before.before.before.before.before.before.loop.taken c.before.before.before.before.before.before.before.before.loop.given c.before.before.before.before.before.before.before.before.loop.invariant.3 _ (comes-short c.before.before.before.before.before.before.before.before.before.before.before.before.args.names.now c.before.before.before.before.before.before.before.before.before.before.before.before.args.cursor (length c.before.before.before.before.before.before.before.before.before.before.before.before.args.out.now) c.before.before.before.before.before.before.before.before.before.before.before.before.args.piece.now c.before.before.before.before.before.before.before.before.loop.taken c.before.before.before.before.before.before.before.before.loop.given c.before.before.before.before.before.before.before.before.loop.invariant.3.so_far (omega arith) c.before.before.before.before.before.step.ensures c.before.before.before.outcome2.given.1 (omega (arith, c.before.if1.true))) in
+    let x = holds_answer c.before.before.before.before.before.before.before.before.before.before.before.before.args.names.now c.before.before.before.before.before.before.before.before.before.before.before.before.args.cursor c.before.before.before.before.before.before.before.before.before.before.before.before.args.piece.now c.before.before.before.before.before.before.before.before.before.before.before.before.args.out.now c.before.before.before.before.before.before.before.before.loop.taken c.before.before.before.before.before.before.before.before.loop.given c.before.before.before.before.before.before.before.before.loop.invariant.3 _ (comes_short c.before.before.before.before.before.before.before.before.before.before.before.before.args.names.now c.before.before.before.before.before.before.before.before.before.before.before.before.args.cursor (length c.before.before.before.before.before.before.before.before.before.before.before.before.args.out.now) c.before.before.before.before.before.before.before.before.before.before.before.before.args.piece.now c.before.before.before.before.before.before.before.before.loop.taken c.before.before.before.before.before.before.before.before.loop.given c.before.before.before.before.before.before.before.before.loop.invariant.3.so_far (omega arith) c.before.before.before.before.before.step.ensures c.before.before.before.outcome2.given.1 (omega (arith, c.before.if1.true))) in
     (c.made2.ensures ∙ x.0, x.1)
 
 slice-write-out : tie.Need-slice-write-out invariant-loop decreases-loop
@@ -79,8 +79,8 @@ loop-again c = (
   ⊎_elim (λ w. omega (arith, w.5, w.3.left)) (λ w. omega (arith, w.3)) c.before.match.branch,
   ⊎_elim (λ w. rw (w.4, length-set) c.before.before.before.before.before.loop.invariant.2) (λ w. rw w.2 c.before.before.before.before.before.loop.invariant.2) c.before.match.branch,
   ⊎_elim
-      (λ w. rw w.5 (holds-event c.before.before.before.before.before.before.before.before.before.args.names.now c.before.before.before.before.before.before.before.before.before.args.cursor c.before.before.before.before.before.before.before.before.before.args.piece.now c.before.before.before.before.before.before.before.before.before.args.out.now c.before.before.before.before.before.loop.taken c.before.before.before.before.before.loop.given c.before.before.before.before.before.loop.invariant.3 (omega arith) c.before.before.step.ensures w.1.given.1 (omega (arith, w.3.left)) (w.4 ∙ put_one c.before.before.before.before.before.loop.given _ c.before.before.before.before.before.loop.out (omega (arith, w.3.left)))))
-      (λ w. rw (w.3, w.2) (holds-nothing c.before.before.before.before.before.before.before.before.before.args.names.now c.before.before.before.before.before.before.before.before.before.args.cursor c.before.before.before.before.before.before.before.before.before.args.piece.now c.before.before.before.before.before.before.before.before.before.args.out.now c.before.before.before.before.before.loop.taken c.before.before.before.before.before.loop.given c.before.before.before.before.before.loop.invariant.3 (omega arith) c.before.before.step.ensures w.1.given.1))
+      (λ w. rw w.5 (holds_event c.before.before.before.before.before.before.before.before.before.args.names.now c.before.before.before.before.before.before.before.before.before.args.cursor c.before.before.before.before.before.before.before.before.before.args.piece.now c.before.before.before.before.before.before.before.before.before.args.out.now c.before.before.before.before.before.loop.taken c.before.before.before.before.before.loop.given c.before.before.before.before.before.loop.invariant.3 (omega arith) c.before.before.step.ensures w.1.given.1 (omega (arith, w.3.left)) (w.4 ∙ put_one c.before.before.before.before.before.loop.given _ c.before.before.before.before.before.loop.out (omega (arith, w.3.left)))))
+      (λ w. rw (w.3, w.2) (holds_nothing c.before.before.before.before.before.before.before.before.before.args.names.now c.before.before.before.before.before.before.before.before.before.args.cursor c.before.before.before.before.before.before.before.before.before.args.piece.now c.before.before.before.before.before.before.before.before.before.args.out.now c.before.before.before.before.before.loop.taken c.before.before.before.before.before.loop.given c.before.before.before.before.before.loop.invariant.3 (omega arith) c.before.before.step.ensures w.1.given.1))
       c.before.match.branch,
 )
 
@@ -92,7 +92,7 @@ made-requires-3 c κs = search rules
 
 returns-3 : tie.Need-returns-3 invariant-loop decreases-loop
 returns-3 c =
-    let x = holds-answer c.before.before.before.before.before.before.args.names.now c.before.before.before.before.before.before.args.cursor c.before.before.before.before.before.before.args.piece.now c.before.before.before.before.before.before.args.out.now c.before.before.loop.taken c.before.before.loop.given c.before.before.loop.invariant.3 _ (comes-all c.before.before.before.before.before.before.args.names.now c.before.before.before.before.before.before.args.cursor (length c.before.before.before.before.before.before.args.out.now) c.before.before.before.before.before.before.args.piece.now c.before.before.loop.taken c.before.before.loop.given c.before.before.loop.invariant.3.so_far (omega arith)) in
+    let x = holds_answer c.before.before.before.before.before.before.args.names.now c.before.before.before.before.before.before.args.cursor c.before.before.before.before.before.before.args.piece.now c.before.before.before.before.before.before.args.out.now c.before.before.loop.taken c.before.before.loop.given c.before.before.loop.invariant.3 _ (comes_all c.before.before.before.before.before.before.args.names.now c.before.before.before.before.before.before.args.cursor (length c.before.before.before.before.before.before.args.out.now) c.before.before.before.before.before.before.args.piece.now c.before.before.loop.taken c.before.before.loop.given c.before.before.loop.invariant.3.so_far (omega arith)) in
     (c.made3.ensures ∙ x.0, x.1)
 
 pub feed-spec : {M : Type 1} → statement M

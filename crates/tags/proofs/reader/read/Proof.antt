@@ -5,8 +5,8 @@ use borrow.Author.Tests.{not-true, not-false}
 use lib.ListN.{length}
 use Rattle.grammar.specs.declared.Reading.TheVariants as answer
 use Rattle.tags.specs.declared.reader.Cursor.{Cursor}
-use Rattle.tags.specs.Cursors.{feedIn, fedOf, feedOut}
-use Rattle.tags.proofs.WholeTexts.{answers-names, answers-refused, answers-taken, given-fits}
+use Rattle.tags.specs.Cursors.{feed_in, fed_of, feed_out}
+use Rattle.tags.proofs.WholeTexts.{answers_names, answers_refused, answers_taken, given_fits}
 use borrow.Author.Rules.{rules}
 use Rattle.tags.proofs.reader.read.Statement.{statement}
 use Rattle.tags.proofs.reader.read.Tie as tie
@@ -15,7 +15,7 @@ good-requires : tie.Need-good-requires
 good-requires c κs = search rules
 
 returns : tie.Need-returns
-returns c = answers-names c.before.before.before.before.before.args.names.now c.before.before.before.before.before.args.text.now c.before.before.before.before.before.args.out.now (sym c.before.good2.ensures ∙ not-true _ c.if1.true)
+returns c = answers_names c.before.before.before.before.before.args.names.now c.before.before.before.before.before.args.text.now c.before.before.before.before.before.args.out.now (sym c.before.good2.ensures ∙ not-true _ c.if1.true)
 
 begin-requires : tie.Need-begin-requires
 begin-requires c κs = search rules
@@ -39,16 +39,16 @@ feed-requires : tie.Need-feed-requires
 feed-requires c κs = search rules
 
 put-end-requires : tie.Need-put-end-requires
-put-end-requires c κs = let h = given-fits c.before.before.before.before.before.before.before.before.before.before.before.before.before.before.before.before.args.names.now (sym c.before.before.before.before.before.before.before.before.before.before.before.before.good2.ensures ∙ not-false _ c.before.before.before.before.before.before.before.before.before.before.before.if1.false) c.before.before.before.before.before.before.before.before.before.before.before.before.before.before.before.before.args.text.now c.before.before.before.before.before.before.before.before.before.before.before.before.before.before.before.before.args.out.now (c.before.before.before.before.before.before.before.before.before.survey.ensures ∙ ap (λ (x : Cursor). fedOf (feedIn c.before.before.before.before.before.before.before.before.before.before.before.before.before.before.before.before.args.names.now x (length c.before.before.before.before.before.before.before.before.before.before.before.before.before.before.before.before.args.out.now) c.before.before.before.before.before.before.before.before.before.before.before.before.before.before.before.before.args.text.now)) c.before.before.before.before.before.before.before.before.before.before.begin.ensures) c.before.before.before.before.before.before.before.before.whole.ensures c.before.before.before.before.before.before.enum_told.given.1 in omega (arith, h)
+put-end-requires c κs = let h = given_fits c.before.before.before.before.before.before.before.before.before.before.before.before.before.before.before.before.args.names.now (sym c.before.before.before.before.before.before.before.before.before.before.before.before.good2.ensures ∙ not-false _ c.before.before.before.before.before.before.before.before.before.before.before.if1.false) c.before.before.before.before.before.before.before.before.before.before.before.before.before.before.before.before.args.text.now c.before.before.before.before.before.before.before.before.before.before.before.before.before.before.before.before.args.out.now (c.before.before.before.before.before.before.before.before.before.survey.ensures ∙ ap (λ (x : Cursor). fed_of (feed_in c.before.before.before.before.before.before.before.before.before.before.before.before.before.before.before.before.args.names.now x (length c.before.before.before.before.before.before.before.before.before.before.before.before.before.before.before.before.args.out.now) c.before.before.before.before.before.before.before.before.before.before.before.before.before.before.before.before.args.text.now)) c.before.before.before.before.before.before.before.before.before.before.begin.ensures) c.before.before.before.before.before.before.before.before.whole.ensures c.before.before.before.before.before.before.enum_told.given.1 in omega (arith, h)
 
 returns-2 : tie.Need-returns-2
-returns-2 c = answers-refused c.before.before.before.before.before.before.before.before.before.before.before.args.names.now (sym c.before.before.before.before.before.before.before.good2.ensures ∙ not-false _ c.before.before.before.before.before.before.if1.false) c.before.before.before.before.before.before.before.before.before.before.before.args.text.now c.before.before.before.before.before.before.before.before.before.before.before.args.out.now (c.before.before.before.before.survey.ensures ∙ ap (λ (x : Cursor). fedOf (feedIn c.before.before.before.before.before.before.before.before.before.before.before.args.names.now x (length c.before.before.before.before.before.before.before.before.before.before.before.args.out.now) c.before.before.before.before.before.before.before.before.before.before.before.args.text.now)) c.before.before.before.before.before.begin.ensures) c.before.before.before.whole.ensures c.before.stop.given.1
+returns-2 c = answers_refused c.before.before.before.before.before.before.before.before.before.before.before.args.names.now (sym c.before.before.before.before.before.before.before.good2.ensures ∙ not-false _ c.before.before.before.before.before.before.if1.false) c.before.before.before.before.before.before.before.before.before.before.before.args.text.now c.before.before.before.before.before.before.before.before.before.before.before.args.out.now (c.before.before.before.before.survey.ensures ∙ ap (λ (x : Cursor). fed_of (feed_in c.before.before.before.before.before.before.before.before.before.before.before.args.names.now x (length c.before.before.before.before.before.before.before.before.before.before.before.args.out.now) c.before.before.before.before.before.before.before.before.before.before.before.args.text.now)) c.before.before.before.before.before.begin.ensures) c.before.before.before.whole.ensures c.before.stop.given.1
 
 same_length : tie.Need-same-length
 same_length c = search rules
 
 returns-3 : tie.Need-returns-3
-returns-3 c = let x = answers-taken c.before.before.before.before.before.before.before.before.before.before.before.before.before.before.before.before.before.before.before.args.names.now (sym c.before.before.before.before.before.before.before.before.before.before.before.before.before.before.before.good2.ensures ∙ not-false _ c.before.before.before.before.before.before.before.before.before.before.before.before.before.before.if1.false) c.before.before.before.before.before.before.before.before.before.before.before.before.before.before.before.before.before.before.before.args.text.now c.before.before.before.before.before.before.before.before.before.before.before.before.before.before.before.before.before.before.before.args.out.now (c.before.before.before.before.before.before.before.before.before.before.before.before.survey.ensures ∙ ap (λ (x : Cursor). fedOf (feedIn c.before.before.before.before.before.before.before.before.before.before.before.before.before.before.before.before.before.before.before.args.names.now x (length c.before.before.before.before.before.before.before.before.before.before.before.before.before.before.before.before.before.before.before.args.out.now) c.before.before.before.before.before.before.before.before.before.before.before.before.before.before.before.before.before.before.before.args.text.now)) c.before.before.before.before.before.before.before.before.before.before.before.before.before.begin.ensures) c.before.before.before.before.before.before.before.before.before.before.before.whole.ensures c.before.before.before.before.before.before.before.before.before.enum_told.given.1 (c.before.before.before.before.before.before.feed.ensures.1 ∙ ap (λ (y : Cursor). feedOut c.before.before.before.before.before.before.before.before.before.before.before.before.before.before.before.before.before.before.before.args.names.now y c.before.before.before.before.before.before.before.before.before.before.before.before.before.before.before.before.before.before.before.args.text.now c.before.before.before.before.before.before.before.before.before.before.before.before.before.before.before.before.before.before.before.args.out.now) c.before.before.before.before.before.before.before.before.begin2.ensures) in (ap answer.Taken c.before.before.put-end.ensures.0 ∙ x.0, c.before.before.put-end.ensures.1 ∙ x.1)
+returns-3 c = let x = answers_taken c.before.before.before.before.before.before.before.before.before.before.before.before.before.before.before.before.before.before.before.args.names.now (sym c.before.before.before.before.before.before.before.before.before.before.before.before.before.before.before.good2.ensures ∙ not-false _ c.before.before.before.before.before.before.before.before.before.before.before.before.before.before.if1.false) c.before.before.before.before.before.before.before.before.before.before.before.before.before.before.before.before.before.before.before.args.text.now c.before.before.before.before.before.before.before.before.before.before.before.before.before.before.before.before.before.before.before.args.out.now (c.before.before.before.before.before.before.before.before.before.before.before.before.survey.ensures ∙ ap (λ (x : Cursor). fed_of (feed_in c.before.before.before.before.before.before.before.before.before.before.before.before.before.before.before.before.before.before.before.args.names.now x (length c.before.before.before.before.before.before.before.before.before.before.before.before.before.before.before.before.before.before.before.args.out.now) c.before.before.before.before.before.before.before.before.before.before.before.before.before.before.before.before.before.before.before.args.text.now)) c.before.before.before.before.before.before.before.before.before.before.before.before.before.begin.ensures) c.before.before.before.before.before.before.before.before.before.before.before.whole.ensures c.before.before.before.before.before.before.before.before.before.enum_told.given.1 (c.before.before.before.before.before.before.feed.ensures.1 ∙ ap (λ (y : Cursor). feed_out c.before.before.before.before.before.before.before.before.before.before.before.before.before.before.before.before.before.before.before.args.names.now y c.before.before.before.before.before.before.before.before.before.before.before.before.before.before.before.before.before.before.before.args.text.now c.before.before.before.before.before.before.before.before.before.before.before.before.before.before.before.before.before.before.before.args.out.now) c.before.before.before.before.before.before.before.before.begin2.ensures) in (ap answer.Taken c.before.before.put-end.ensures.0 ∙ x.0, c.before.before.put-end.ensures.1 ∙ x.1)
 
 pub read_spec : {M : Type 1} → statement M
 read_spec =

@@ -2,18 +2,18 @@
 use mathlib.Core.Path.{◌≡◌, ap, sym, ◌∙◌}
 use mathlib.Core.List.{List}
 use Prim.Native.Nat.{ℕ}
-use Rattle.grammar.specs.Bytes.{classOf}
+use Rattle.grammar.specs.Bytes.{class_of}
 use Rattle.tags.specs.declared.reader.Within.{Within}
 use Rattle.tags.specs.declared.reader.Cursor.{Cursor}
-use Rattle.tags.specs.Cursors.{stepIn, step_of}
+use Rattle.tags.specs.Cursors.{step_in, step_of}
 use borrow.Author.Rules.{rules}
 use Rattle.tags.proofs.reader.step.Statement.{statement}
 use Rattle.tags.proofs.reader.step.Tie as tie
 
 -- A byte is judged by what is begun of a tag.
-within-tag : (names : List ℕ) (c : Cursor) (b : ℕ) {class : ℕ} {v : Within} → class ≡ classOf b → c.within ≡ v → stepIn v names c class b ≡ step_of names c b
+within-tag : (names : List ℕ) (c : Cursor) (b : ℕ) {class : ℕ} {v : Within} → class ≡ class_of b → c.within ≡ v → step_in v names c class b ≡ step_of names c b
 within-tag names c b {class = class} e g =
-    ap (λ (u : Within). stepIn u names c class b) (sym g) ∙ ap (λ (k : ℕ). stepIn c.within names c k b) e
+    ap (λ (u : Within). step_in u names c class b) (sym g) ∙ ap (λ (k : ℕ). step_in c.within names c k b) e
 
 class-of-requires : tie.Need-class-of-requires
 class-of-requires c κs = search rules

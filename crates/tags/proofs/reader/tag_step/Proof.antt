@@ -4,18 +4,18 @@ use mathlib.Core.List.{List}
 use Prim.Native.Nat.{ℕ}
 use Rattle.names.specs.declared.Label.{Label}
 use Rattle.names.specs.declared.Label.TheVariants as label
-use Rattle.names.specs.Words.{labelIn}
+use Rattle.names.specs.Words.{label_in}
 use Rattle.tags.specs.declared.reader.Within.{Within}
 use Rattle.tags.specs.declared.reader.Cursor.{Cursor}
-use Rattle.tags.specs.Cursors.{judgeIn, judgeBy, tagStep}
+use Rattle.tags.specs.Cursors.{judge_in, judge_by, tag_step}
 use borrow.Author.Rules.{rules}
 use Rattle.tags.proofs.reader.tag_step.Statement.{statement}
 use Rattle.tags.proofs.reader.tag_step.Tie as tie
 
 -- A known name is judged by what was begun of its tag.
 known-tag : (names : List ℕ) (c : Cursor) {r : Label} {a : ℕ} {v : Within}
-    → r ≡ labelIn names c.name → r ≡ label.Is a → c.within ≡ v → judgeIn v c a ≡ tagStep names c
-known-tag names c {a = a} e f g = ap (λ (u : Within). judgeIn u c a) (sym g) ∙ ap (λ (l : Label). judgeBy l c) (sym f ∙ e)
+    → r ≡ label_in names c.name → r ≡ label.Is a → c.within ≡ v → judge_in v c a ≡ tag_step names c
+known-tag names c {a = a} e f g = ap (λ (u : Within). judge_in u c a) (sym g) ∙ ap (λ (l : Label). judge_by l c) (sym f ∙ e)
 
 label-of-requires : tie.Need-label-of-requires
 label-of-requires c κs = search rules
@@ -66,7 +66,7 @@ fault-requires-4 : tie.Need-fault-requires-4
 fault-requires-4 c κs = search rules
 
 returns : tie.Need-returns
-returns c = c.fault.ensures ∙ ap (λ (l : Label). judgeBy l c.before.before.before.before.before.before.args.cursor) (sym c.before.enum_told.given.1 ∙ c.before.before.before.label_of.ensures)
+returns c = c.fault.ensures ∙ ap (λ (l : Label). judge_by l c.before.before.before.before.before.before.args.cursor) (sym c.before.enum_told.given.1 ∙ c.before.before.before.label_of.ensures)
 
 returns-2 : tie.Need-returns-2
 returns-2 c = c.open_step.ensures ∙ known-tag c.before.before.before.before.before.before.before.before.before.args.names.now c.before.before.before.before.before.before.before.before.before.args.cursor c.before.before.before.before.before.before.label_of.ensures c.before.before.before.before.label.given.1 c.before.enum-told2.given.1

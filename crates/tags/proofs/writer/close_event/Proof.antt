@@ -26,10 +26,10 @@ wrong-requires : tie.Need-wrong-requires
 wrong-requires c κs = search rules
 
 returns : tie.Need-returns
-returns c = c.written.ensures ∙ rw (c.before.shallower.ensures, sym c.before.before.before.before.before.newest.ensures, sym c.before.before.before.before.name-at.ensures, sym c.before.before.before.has-name.ensures, c.before.before.if1.true)
+returns c = c.written.ensures ∙ rw (c.before.shallower.ensures, sym c.before.before.before.before.before.newest.ensures, sym c.before.before.before.before.name-at.ensures, sym c.before.before.before.has_name_lem.ensures, c.before.before.if1.true)
 
 returns-2 : tie.Need-returns-2
-returns-2 c = c.wrong.ensures ∙ rw (sym c.before.before.before.before.newest.ensures, sym c.before.before.before.name-at.ensures, sym c.before.before.has-name.ensures, c.before.if1.false)
+returns-2 c = c.wrong.ensures ∙ rw (sym c.before.before.before.before.newest.ensures, sym c.before.before.before.name-at.ensures, sym c.before.before.has_name_lem.ensures, c.before.if1.false)
 
 pub close-event-spec : {M : Type 1} → statement M
 close-event-spec =

@@ -4,8 +4,8 @@ use Prim.Native.Nat.{◌-◌, ◌≤◌}
 use native.Mathlib.Omega.{arith}
 use borrow.Author.Rules.{rules}
 use lib.ListN.{length, get_or}
-use Rattle.tags.proofs.Words.{spelled-writable}
-use Rattle.tags.proofs.Loops.{Follows, follows-none, follows_on, follows-stop, follows-all}
+use Rattle.tags.proofs.Words.{spelled_writable}
+use Rattle.tags.proofs.Loops.{Follows, follows_none, follows_on, follows_stop, follows_all}
 use Rattle.tags.proofs.writer.follow.Statement.{statement}
 use Rattle.tags.proofs.writer.follow.Tie as tie
 
@@ -16,7 +16,7 @@ abbrev decreases-loop : tie.decreases-loop
 decreases-loop names events room next₀ space₀ taken₀ next space taken = length events - taken
 
 loop-holds : tie.Need-loop-init invariant-loop decreases-loop
-loop-holds c = let a = c.before.before.args in (omega arith, follows-none a.names.now a.scribe a.events.now a.room)
+loop-holds c = let a = c.before.before.args in (omega arith, follows_none a.names.now a.scribe a.events.now a.room)
 
 shared-slice-read-spell : tie.Need-shared-slice-read-spell invariant-loop decreases-loop
 shared-slice-read-spell c = omega arith
@@ -31,14 +31,14 @@ returns : tie.Need-returns invariant-loop decreases-loop
 returns c =
     let a = c.before.before.before.before.before.before.before.before.args in
     let l = c.before.before.before.before.before.loop in
-    follows-stop a.names.now a.scribe a.events.now a.room l.taken l.invariant.1 (omega arith) _ c.before.before.spell.ensures
+    follows_stop a.names.now a.scribe a.events.now a.room l.taken l.invariant.1 (omega arith) _ c.before.before.spell.ensures
     (sym c.before.faulty.ensures ∙ c.if1.true)
 
 length-requires : tie.Need-length-requires invariant-loop decreases-loop
 length-requires c κs =
     let a = c.before.before.before.before.before.before.before.before.args in
     let l = c.before.before.before.before.before.loop in
-    rw c.before.before.spell.ensures (spelled-writable a.names.now l.next (get_or a.events.now l.taken 0))
+    rw c.before.before.spell.ensures (spelled_writable a.names.now l.next (get_or a.events.now l.taken 0))
 
 less-requires : tie.Need-less-requires invariant-loop decreases-loop
 less-requires c κs = search rules
@@ -62,7 +62,7 @@ returns-2 : tie.Need-returns-2 invariant-loop decreases-loop
 returns-2 c =
     let a = c.before.before.before.before.args in
     let l = c.before.loop in
-    follows-all a.names.now a.scribe a.events.now a.room l.taken l.invariant.1 (omega arith)
+    follows_all a.names.now a.scribe a.events.now a.room l.taken l.invariant.1 (omega arith)
 
 pub follow-spec : {M : Type 1} → statement M
 follow-spec =

@@ -5,7 +5,7 @@ use native.Mathlib.Numerals.{add-one}
 use native.Mathlib.Omega.{arith}
 use lib.ListN.{length, length-set}
 use lib.Seq.{paste, paste-zero, paste-suc}
-use Rattle.meaning.proofs.Lent.{put-pasted}
+use Rattle.meaning.proofs.Lent.{put_pasted}
 use Rattle.tags.proofs.writer.put.Statement.{statement}
 use Rattle.tags.proofs.writer.put.Tie as tie
 
@@ -49,7 +49,7 @@ returns : tie.Need-returns invariant-loop decreases-loop
 returns c =
     let a = c.before.before.args in
     let e : c.before.loop.i ≡ length a.bytes.now = omega arith in
-    (rw e at c.before.loop.invariant.2) ∙ put-pasted a.at a.bytes.now a.out.now
+    (rw e at c.before.loop.invariant.2) ∙ put_pasted a.at a.bytes.now a.out.now
 
 pub put_spec : {M : Type 1} → statement M
 put_spec =

@@ -5,22 +5,22 @@ use native.Mathlib.Omega.{arith}
 use borrow.Author.Rules.{rules}
 use lib.ListN.{length, get_or}
 use Rattle.grammar.specs.declared.Stop.TheVariants.{Not}
-use Rattle.tags.proofs.Words.{spelled-writable}
-use Rattle.tags.specs.Writers.{scribeStep}
-use Rattle.tags.proofs.Pieces.{Holds, holds-none, holds-length}
-use Rattle.tags.proofs.Loops.{writes-on, writes-stop, writes_short, writes-all}
+use Rattle.tags.proofs.Words.{spelled_writable}
+use Rattle.tags.specs.Writers.{scribe_step}
+use Rattle.tags.proofs.Pieces.{Holds, holds_none, holds_length}
+use Rattle.tags.proofs.Loops.{writes_on, writes_stop, writes_short, writes_all}
 use Rattle.tags.proofs.writer.put_events.Statement.{statement}
 use Rattle.tags.proofs.writer.put_events.Tie as tie
 
 abbrev invariant-loop : tie.invariant-loop
 invariant-loop names piece out₀ next₀ taken₀ given₀ stop₀ out next taken given stop =
-    (taken ≤ length piece) × (length out ≡ length out₀) × (given ≤ length out₀) × (stop ≡ Not) × Holds (scribeStep names) next₀ piece out₀ out next taken given
+    (taken ≤ length piece) × (length out ≡ length out₀) × (given ≤ length out₀) × (stop ≡ Not) × Holds (scribe_step names) next₀ piece out₀ out next taken given
 
 abbrev decreases-loop : tie.decreases-loop
 decreases-loop names piece out₀ next₀ taken₀ given₀ stop₀ out next taken given stop = length piece - taken
 
 loop-holds : tie.Need-loop-init invariant-loop decreases-loop
-loop-holds c = let a = c.before.before.before.args in (omega arith, refl, omega arith, refl, holds-none (scribeStep a.names.now) a.scribe a.piece.now a.out.now)
+loop-holds c = let a = c.before.before.before.args in (omega arith, refl, omega arith, refl, holds_none (scribe_step a.names.now) a.scribe a.piece.now a.out.now)
 
 shared-slice-read-spell : tie.Need-shared-slice-read-spell invariant-loop decreases-loop
 shared-slice-read-spell c = omega arith
@@ -35,7 +35,7 @@ length-requires : tie.Need-length-requires invariant-loop decreases-loop
 length-requires c κs =
     let a = c.before.before.before.before.before.before.before.before.before.args in
     let l = c.before.before.before.before.before.loop in
-    rw c.before.before.spell.ensures (spelled-writable a.names.now l.next (get_or a.piece.now l.taken 0))
+    rw c.before.before.spell.ensures (spelled_writable a.names.now l.next (get_or a.piece.now l.taken 0))
 
 sub-if2 : tie.Need-overflow-sub-if2 invariant-loop decreases-loop
 sub-if2 c = omega arith
@@ -44,7 +44,7 @@ put-spelled-requires : tie.Need-put-spelled-requires invariant-loop decreases-lo
 put-spelled-requires c κs =
     let a = c.before.before.before.before.before.before.before.before.before.before.before.before.args in
     let l = c.before.before.before.before.before.before.before.before.loop in
-    (rw c.before.before.before.before.before.spell.ensures (spelled-writable a.names.now l.next (get_or a.piece.now l.taken 0)), omega arith)
+    (rw c.before.before.before.before.before.spell.ensures (spelled_writable a.names.now l.next (get_or a.piece.now l.taken 0)), omega arith)
 
 add-given : tie.Need-overflow-add-given invariant-loop decreases-loop
 add-given c = omega arith
@@ -62,9 +62,9 @@ loop-again c =
     let x = c.before.before.before.before.before.before.before.before.before.spell in
     let n = c.before.before.before.before.before.before.length in
     let w =
-    writes-on a.names.now a.scribe a.piece.now a.out.now l.taken l.given l.invariant.4 (omega arith) x.result x.ensures
+    writes_on a.names.now a.scribe a.piece.now a.out.now l.taken l.given l.invariant.4 (omega arith) x.result x.ensures
     (sym c.before.before.before.before.before.before.before.before.faulty.ensures ∙ c.before.before.before.before.before.before.before.if1.false) n.result n.ensures (omega arith) c.before.before.before.put-spelled.ensures in
-    (omega arith, holds-length (scribeStep a.names.now) a.scribe a.piece.now a.out.now _ _ w, omega arith, l.invariant.3, w)
+    (omega arith, holds_length (scribe_step a.names.now) a.scribe a.piece.now a.out.now _ _ w, omega arith, l.invariant.3, w)
 
 same_length : tie.Need-same-length invariant-loop decreases-loop
 same_length c = c.before.loop.invariant.1
@@ -73,7 +73,7 @@ returns : tie.Need-returns invariant-loop decreases-loop
 returns c =
     let a = c.before.before.before.before.before.args in
     let l = c.before.loop in
-    rw l.invariant.3 (writes-all a.names.now a.scribe a.piece.now a.out.now l.taken l.given l.invariant.4 (omega arith))
+    rw l.invariant.3 (writes_all a.names.now a.scribe a.piece.now a.out.now l.taken l.given l.invariant.4 (omega arith))
 
 same-length-2 : tie.Need-same-length-2 invariant-loop decreases-loop
 same-length-2 c = c.before.before.before.before.before.loop.invariant.1
@@ -83,7 +83,7 @@ returns-2 c =
     let a = c.before.before.before.before.before.before.before.before.before.args in
     let l = c.before.before.before.before.before.loop in
     let x = c.before.before.spell in
-    writes-stop a.names.now a.scribe a.piece.now a.out.now l.taken l.given l.invariant.4 (omega arith) x.result x.ensures
+    writes_stop a.names.now a.scribe a.piece.now a.out.now l.taken l.given l.invariant.4 (omega arith) x.result x.ensures
     (sym c.before.faulty.ensures ∙ c.if1.true)
 
 same-length-3 : tie.Need-same-length-3 invariant-loop decreases-loop

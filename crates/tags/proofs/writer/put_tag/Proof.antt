@@ -5,20 +5,20 @@ use native.Mathlib.Omega.{arith}
 use Rattle.names.specs.declared.Word.{Word}
 use Rattle.tags.specs.declared.writer.Form.{Form}
 use Rattle.tags.specs.declared.writer.Form.TheVariants as form
-use Rattle.tags.specs.Writers.{tagLength}
+use Rattle.tags.specs.Writers.{tag_length}
 use borrow.Author.Rules.{rules}
 use Rattle.tags.proofs.writer.put_tag.Statement.{statement}
 use Rattle.tags.proofs.writer.put_tag.Tie as tie
 
 -- A tag's length is that of its parts.
 module _ (at : ℕ) (f : Form) (w : Word) (room : ℕ) where
-  fits-opening : f ≡ form.Opening → at + tagLength f w ≤ room → at + (1 + (w.length + 1)) ≤ room
+  fits-opening : f ≡ form.Opening → at + tag_length f w ≤ room → at + (1 + (w.length + 1)) ≤ room
   fits-opening e h = let k : at + (2 + w.length) ≤ room = rw e at h in omega arith
 
-  fits-closing : f ≡ form.Closing → at + tagLength f w ≤ room → at + (2 + (w.length + 1)) ≤ room
+  fits-closing : f ≡ form.Closing → at + tag_length f w ≤ room → at + (2 + (w.length + 1)) ≤ room
   fits-closing e h = let k : at + (3 + w.length) ≤ room = rw e at h in omega arith
 
-  fits-empty : f ≡ form.Empty → at + tagLength f w ≤ room → at + (1 + (w.length + 2)) ≤ room
+  fits-empty : f ≡ form.Empty → at + tag_length f w ≤ room → at + (1 + (w.length + 2)) ≤ room
   fits-empty e h = let k : at + (3 + w.length) ≤ room = rw e at h in omega arith
 
 enum_told : tie.Need-enum-told

@@ -1,5 +1,5 @@
 -- `write` meets its contract.
-use Rattle.tags.proofs.WholeStreams.{answers-names, answers-refused, answers-short, answers-written}
+use Rattle.tags.proofs.WholeStreams.{answers_names, answers_refused, answers_short, answers_written}
 use borrow.Author.Rules.{rules}
 use Rattle.tags.proofs.writer.write.Statement.{statement}
 use Rattle.tags.proofs.writer.write.Tie as tie
@@ -10,7 +10,7 @@ good-requires c κs = search rules
 returns : tie.Need-returns
 returns c =
     let a = c.before.before.before.before.before.args in
-    answers-names a.names.now a.events.now a.out.now c.before.good2.result c.before.good2.ensures c.if1.true
+    answers_names a.names.now a.events.now a.out.now c.before.good2.result c.before.good2.ensures c.if1.true
 
 begin-requires : tie.Need-begin-requires
 begin-requires c κs = search rules
@@ -24,13 +24,13 @@ whole-requires c κs = search rules
 returns-2 : tie.Need-returns-2
 returns-2 c =
     let a = c.before.before.before.before.before.before.before.before.before.args in
-    answers-refused a.names.now a.events.now a.out.now c.before.before.before.before.before.good2.result c.before.before.before.before.before.good2.ensures
+    answers_refused a.names.now a.events.now a.out.now c.before.before.before.before.before.good2.result c.before.before.before.before.before.good2.ensures
     c.before.before.before.before.if1.false c.before.before.before.begin.result c.before.before.before.begin.ensures c.before.before.follow.result c.before.before.follow.ensures c.before.whole.result c.before.whole.ensures c.if2.true
 
 returns-3 : tie.Need-returns-3
 returns-3 c =
     let a = c.before.before.before.before.before.before.before.before.before.before.before.before.args in
-    answers-short a.names.now a.events.now a.out.now c.before.before.before.before.before.before.before.before.good2.result c.before.before.before.before.before.before.before.before.good2.ensures
+    answers_short a.names.now a.events.now a.out.now c.before.before.before.before.before.before.before.before.good2.result c.before.before.before.before.before.before.before.before.good2.ensures
     c.before.before.before.before.before.before.before.if1.false c.before.before.before.before.before.before.begin.result c.before.before.before.before.before.before.begin.ensures c.before.before.before.before.before.follow.result c.before.before.before.before.before.follow.ensures c.before.before.before.before.whole.result c.before.before.before.before.whole.ensures c.before.before.before.if2.false c.if3.true
 
 put-events-requires : tie.Need-put-events-requires
@@ -42,7 +42,7 @@ same_length c = search rules
 returns-4 : tie.Need-returns-4
 returns-4 c =
     let a = c.before.before.before.before.before.before.before.before.before.before.before.before.before.before.before.before.args in
-    answers-written a.names.now a.events.now a.out.now c.before.before.before.before.before.before.before.before.before.before.before.before.good2.result c.before.before.before.before.before.before.before.before.before.before.before.before.good2.ensures
+    answers_written a.names.now a.events.now a.out.now c.before.before.before.before.before.before.before.before.before.before.before.before.good2.result c.before.before.before.before.before.before.before.before.before.before.before.before.good2.ensures
     c.before.before.before.before.before.before.before.before.before.before.before.if1.false c.before.before.before.before.before.before.before.before.before.before.begin.result c.before.before.before.before.before.before.before.before.before.before.begin.ensures c.before.before.before.before.before.before.before.before.before.follow.result c.before.before.before.before.before.before.before.before.before.follow.ensures c.before.before.before.before.before.before.before.before.whole.result c.before.before.before.before.before.before.before.before.whole.ensures c.before.before.before.before.before.before.before.if2.false c.before.before.before.before.if3.false
     _ _ c.before.before.put-events.ensures.0 c.before.before.put-events.ensures.1
 

@@ -8,8 +8,8 @@ use Prim.Native.Nat.{ℕ, ◌-◌, ◌≤◌, ◌<◌}
 use lib.Dec.{eqb, ltb}
 use borrow.Author.Tests.{eqb-false, ltb-false}
 
-true-false : true ≡ false → ⊥
-true-false e = let z : ◌≡◌ {A = ℕ} 0 1 = cc in omega arith
+true_false : true ≡ false → ⊥
+true_false e = let z : ◌≡◌ {A = ℕ} 0 1 = cc in omega arith
 
 -- What the test says where it fails.
 some-newest : (d : ℕ) → eqb d 0 || ltb 40 d ≡ false → (1 ≤ d) × (d - 1 < 40)
@@ -20,8 +20,8 @@ some-newest d e = go (eqb d 0) (ltb 40 d) refl refl e
         let p : ¬ (d ≡ 0) = eqb-false d 0 f in
         let q : d ≤ 40 = ltb-false 40 d g in
         (omega arith, omega arith)
-    go false true f g h = absurd (true-false h)
-    go true t f g h = absurd (true-false h)
+    go false true f g h = absurd (true_false h)
+    go true t f g h = absurd (true_false h)
 
 returns : tie.Need-returns
 returns c = rw c.if1.true

@@ -1,6 +1,6 @@
 -- `Spelled::length` meets its contract.
 use mathlib.Core.Path.{◌∙◌}
-use Rattle.tags.proofs.Words.{tag-length}
+use Rattle.tags.proofs.Words.{tag_length_lem}
 use borrow.Author.Rules.{rules}
 use Rattle.tags.proofs.writer.Spelled.length.Statement.{statement}
 use Rattle.tags.proofs.writer.Spelled.length.Tie as tie
@@ -21,7 +21,7 @@ returns : tie.Need-returns
 returns c = search rules
 
 returns-2 : tie.Need-returns-2
-returns-2 c = rw c.before.before.given.given.1 (c.tag-length.ensures ∙ tag-length c.before.before.given.given.0.0 c.before.before.before.before.before.args.self.name c.before.before.before.before.before.requires)
+returns-2 c = rw c.before.before.given.given.1 (c.tag_length_lem.ensures ∙ tag_length_lem c.before.before.given.given.0.0 c.before.before.before.before.before.args.self.name c.before.before.before.before.before.requires)
 
 returns-3 : tie.Need-returns-3
 returns-3 c = search rules
