@@ -1,12 +1,14 @@
 // The watch's record, what an event byte means, and what a call answers.
 //
 // The record goes into each call by value and the next one comes back.
+#![tactic(auto)]
+
 ghost use Rattle.std.specs.Prelude.{◌≡◌, ◌<◌};
 ghost use Rattle.answers.specs.Record.{started_of, no_record, deeper_of, shallower_of, one_more_of, with_alive, finished_of};
 ghost use Rattle.answers.specs.Bytes.{meaning_of};
 ghost use Rattle.answers.specs.Answers.{refusal_number, outcome_number, nowhere, place_of, outcome_place, refused_of, taken_of};
 
-#[derive(Drop)]
+#[derive(Clone, Copy)]
 pub struct Record {
     pub rows: u64,
     // The depth allowed and the depth now.
@@ -87,7 +89,7 @@ impl Record {
 }
 
 // What an event byte means, with its label.
-#[derive(Drop)]
+#[derive(Clone, Copy)]
 pub enum Event {
     Open(u64),
     Point(u64),
@@ -112,7 +114,7 @@ pub fn event_of(byte: u8) -> Event
 }
 
 // The place that a refusal names, in three numbers; 0 where it names none.
-#[derive(Drop)]
+#[derive(Clone, Copy)]
 pub struct Place {
     // 7: the word of work memory, from 0.
     pub word: u64,
@@ -135,7 +137,7 @@ impl Place {
 }
 
 // Why a call is refused, in the order of checking; the first five are the table's.
-#[derive(Drop)]
+#[derive(Clone, Copy)]
 pub enum Refusal {
     Table(table::Refusal),
     // Rows or depth allowed out of range, work length wrong, or reports shorter than rows + 1.
@@ -204,7 +206,7 @@ impl Refusal {
 }
 
 // What became of a call: taken, with the number of reports, or refused.
-#[derive(Drop)]
+#[derive(Clone, Copy)]
 pub enum Outcome {
     Taken(u64),
     Refused(Refusal),
@@ -233,7 +235,7 @@ impl Outcome {
 }
 
 // The answer of a call: the next record, or where it is refused the old one.
-#[derive(Drop)]
+#[derive(Clone, Copy)]
 pub struct Answer {
     pub next: Record,
     pub outcome: Outcome,

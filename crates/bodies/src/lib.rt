@@ -3,6 +3,8 @@
 // The file's bytes are themselves the table, lent to every call. The steps ask for a file that can be stepped by (`Sound`,
 // which every file has that `table::read` takes) and for states and labels below its n and k; each answers what `table_of`
 // the bytes says.
+#![tactic(auto)]
+
 ghost use Rattle.std.specs.Prelude.{◌≡◌, ◌+◌, ◌*◌, ◌<◌, length, get_or};
 ghost use Rattle.meaning.specs.Table.{table_of, in_body, body_length};
 ghost use Rattle.bodies.specs.Sound.{Sound, CellOf, states_in, labels_in};

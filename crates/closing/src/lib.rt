@@ -2,6 +2,8 @@
 //
 // Every function here asks for a table file that can be stepped by (`Sound`). Each answers the mask of `meaning` of the
 // same name; that these masks are the smallest sets of 01 is proved there.
+#![tactic(auto)]
+
 ghost use Rattle.std.specs.Prelude.{◌≡◌, ◌<◌};
 ghost use Rattle.meaning.specs.Table.{table_of};
 ghost use Rattle.meaning.specs.Masks.{points_of, applies_of, round_of, openings_of, trees_of, acc_of, accs_over};

@@ -5,7 +5,7 @@ use slices::{get, minus, plus, put};
 
 // How the names of a list are made: of so many bytes of the alphabet, at first and then, and at most so many; or numbered. With
 // it how many names there are at most.
-#[derive(Drop)]
+#[derive(Clone, Copy)]
 struct Plan {
     numbered: bool,
     first: usize,

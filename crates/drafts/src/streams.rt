@@ -8,7 +8,7 @@ const CLOSE: usize = 64;
 
 // How many events, how deep at most, and how many of a hundred events open an element where one may: a deep stream has about
 // as many open as there may be. With it how many of a hundred closes are labelled.
-#[derive(Drop)]
+#[derive(Clone, Copy)]
 struct Plan {
     events: usize,
     limit: usize,

@@ -2,6 +2,8 @@
 //
 // Neither assumes anything of its caller: any table, numbers, record, memory and byte are taken or refused by number. A
 // refused event gives its record back, a refused start a record of zeros, and neither writes to lent memory.
+#![tactic(auto)]
+
 ghost use Rattle.std.specs.Prelude.{◌≡◌, ◌<◌, ◌≤◌, length};
 ghost use Rattle.meaning.specs.Table.{table_of};
 ghost use Rattle.bodies.specs.Sound.{Sound};

@@ -4,6 +4,8 @@
 // event gives its record back, a refused start a record of zeros, and neither writes to lent memory.
 //
 // Table, record and work memory are judged once a block, before its first byte: a taken event leaves them in order again.
+#![tactic(auto)]
+
 ghost use Rattle.std.specs.Prelude.{◌≡◌, length};
 ghost use Rattle.meaning.specs.Table.{table_of};
 ghost use Rattle.bodies.specs.Sound.{Sound};
@@ -18,7 +20,7 @@ pub use answers::{Answer, Outcome, Record, Refusal};
 use judge::Judged;
 
 // Why a block was left: it was not, or its end was taken; there is no room for the next byte; the next byte is refused.
-#[derive(Drop)]
+#[derive(Clone, Copy)]
 pub enum Stop {
     Not,
     Room,
@@ -26,7 +28,7 @@ pub enum Stop {
 }
 
 // How far a block was taken.
-#[derive(Drop)]
+#[derive(Clone, Copy)]
 pub struct Fed {
     pub next: Record,
     // How many bytes were taken, and how many reports they gave.

@@ -1,8 +1,9 @@
 // Tagged text (02, K1): what it is stands in specs/, what follows from it in proofs/. Here are the answers that reading
 // and writing it have in common.
+#![tactic(auto)]
 
 // Why a text is refused at a place, in 02's order.
-#[derive(Drop)]
+#[derive(Clone, Copy)]
 pub enum Fault {
     // A byte that is not allowed there.
     Byte,
@@ -19,14 +20,14 @@ pub enum Fault {
 }
 
 // Whether reading or writing has stopped, and by what fault.
-#[derive(Drop)]
+#[derive(Clone, Copy)]
 pub enum Stop {
     Not,
     At(Fault),
 }
 
 // What the reader answers: the number of events written, or why none was.
-#[derive(Drop)]
+#[derive(Clone, Copy)]
 pub enum Reading {
     Taken(usize),
     // The list of names is bad.
@@ -36,7 +37,7 @@ pub enum Reading {
 }
 
 // What the writer answers: the number of bytes written, or why none was.
-#[derive(Drop)]
+#[derive(Clone, Copy)]
 pub enum Writing {
     Taken(usize),
     // The list of names is bad.

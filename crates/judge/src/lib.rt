@@ -1,6 +1,8 @@
 // All refusals but that for want of rows: judging what a call was given, before anything is done. Nothing is written.
 //
 // The outer functions here take any table, record, words and event.
+#![tactic(auto)]
+
 ghost use Rattle.std.specs.Prelude.{◌≡◌, ℕ, ◌+◌, ◌≤◌, length};
 ghost use Rattle.meaning.specs.Refusals.{first_of};
 ghost use Rattle.places.specs.Places.{work_length};
@@ -13,7 +15,7 @@ use order::{Place, Shape};
 use table::Reading;
 
 // A refusal, or none.
-#[derive(Drop)]
+#[derive(Clone, Copy)]
 pub enum Judged {
     Fine,
     Refused(Refusal),

@@ -1,6 +1,8 @@
 // The words of the open levels' labels, at the end of work memory: what an event makes of them.
 //
 // The words here are those alone. They are asked to be the words of d open levels (`LabelsIn`).
+#![tactic(auto)]
+
 ghost use Rattle.std.specs.Prelude.{◌≡◌, length};
 ghost use Rattle.meaning.specs.Streams.{opened_by};
 ghost use Rattle.places.specs.Memory.{labels_words, open_in, LabelsIn};

@@ -3,6 +3,8 @@
 //
 // Neither call assumes anything of its caller but what no slice can show: each pointer points to as many elements as its
 // length says and is not null, and the lent memories do not overlap.
+#![tactic(auto)]
+
 ghost use Rattle.std.specs.Prelude.{◌≡◌, length};
 ghost use Rattle.link.specs.Words.{record_words, record_in, four_words, answer_words};
 ghost use Rattle.link.specs.Linked.{fitting, start_number, start_leaves_work, start_leaves_record, start_leaves_answer};

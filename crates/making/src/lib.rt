@@ -1,4 +1,6 @@
 // What the trial is made of: numbers that look random, from a seed, and tables drawn by them. Nothing is assumed of a caller.
+#![tactic(auto)]
+
 mod dice;
 mod tables;
 

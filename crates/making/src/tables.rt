@@ -2,7 +2,7 @@
 use crate::dice::{between, draw, is_one_in};
 use slices::{get, minus, pair, plus, put};
 
-#[derive(Drop)]
+#[derive(Clone, Copy)]
 enum Style {
     // Any state.
     Any,
@@ -85,7 +85,7 @@ fn put_entry(file: &mut [u8], kind: usize, from: usize, to: usize) {
 }
 
 // Where each body ends.
-#[derive(Drop)]
+#[derive(Clone, Copy)]
 struct Ends {
     openings: usize,
     points: usize,

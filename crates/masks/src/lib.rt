@@ -1,4 +1,6 @@
 // One state in a mask: a set of states is a 64-bit word, state i at bit i.
+#![tactic(auto)]
+
 ghost use Rattle.std.specs.Prelude.{◌≡◌, ◌<◌};
 ghost use Rattle.meaning.specs.Masks.{has, added};
 

@@ -3,6 +3,8 @@
 //
 // Functions here ask for words whose first n rows are rows (`RowsIn`). Each leaves the words of the rows that the rules
 // name, and the words past them as they were.
+#![tactic(auto)]
+
 ghost use Rattle.std.specs.Prelude.{◌≡◌, not, ◌++◌, map, ◌+◌, ◌*◌, ◌<◌, ◌≤◌, length, take, drop};
 ghost use Rattle.meaning.specs.Table.{table_of};
 ghost use Rattle.meaning.specs.Rows.{mark_row};

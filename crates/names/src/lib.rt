@@ -1,5 +1,7 @@
 // The list of names of tagged text (02, K1), each on a line of its own: whether it is good, the label of a name, the name
 // of a label. With it the class of each byte value, by which a name is told from what stands around it.
+#![tactic(auto)]
+
 ghost use Rattle.std.specs.Prelude.{◌≡◌};
 ghost use Rattle.grammar.specs.Bytes.{class_of};
 ghost use Rattle.grammar.specs.Names.{good_names};
@@ -285,7 +287,7 @@ pub fn class_of(byte: u8) -> u8
 }
 
 // The first bytes of a name, with their number: 17 where there are more than 16.
-#[derive(Drop)]
+#[derive(Clone, Copy)]
 pub struct Word {
     pub bytes: [u8; 16],
     pub length: usize,
@@ -332,7 +334,7 @@ impl Word {
 }
 
 // The label of a name, or that it is none of the list's.
-#[derive(Drop)]
+#[derive(Clone, Copy)]
 pub enum Label {
     Is(u8),
     None,

@@ -1,6 +1,8 @@
 // Where the bodies of a table file stand: computed here and nowhere else.
 //
 // n and k are within 01's sizes; the opening body begins at 29.
+#![tactic(auto)]
+
 ghost use Rattle.std.specs.Prelude.{◌≡◌, ◌<◌, ◌≤◌};
 ghost use Rattle.meaning.specs.Table.{body_at, body_length};
 

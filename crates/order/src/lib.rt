@@ -1,12 +1,14 @@
 // Is work memory in order? If not, the place of the first word that breaks it (refusal 7 of 01).
 //
 // Any words are judged, as long as they are as many as the rows and levels ask for. The rows come first, then the labels.
+#![tactic(auto)]
+
 ghost use Rattle.std.specs.Prelude.{◌≡◌, ℕ, ◌+◌, ◌*◌, ◌<◌, ◌≤◌, length};
 ghost use Rattle.places.specs.Places.{level_length, row_length, row_at, state_at};
 ghost use Rattle.order.specs.Order.{cell_right, label_right, labels_from, word_right, first_from, first_fault};
 
 // What the words are judged by.
-#[derive(Drop)]
+#[derive(Clone, Copy)]
 pub struct Shape {
     // How many rows memory has, row 0 among them, and how many levels each.
     pub rows: usize,
@@ -21,7 +23,7 @@ pub struct Shape {
     pub labels: u64,
 }
 
-#[derive(Drop)]
+#[derive(Clone, Copy)]
 pub enum Place {
     Fine,
     At(usize),

@@ -1,6 +1,8 @@
 // What the programs that stand in a pipe have in common: a file read whole, bytes and numbers put into a line, the front
 // of an output written out, the place in the input, and the line of a refusal on standard error. No public function asks
 // anything of its caller.
+#![tactic(auto)]
+
 ghost use Rattle.std.specs.Prelude.{◌≡◌, true, ◌+◌, ◌≤◌, min};
 ghost use Rattle.io.specs.Counts.{IsPrefixLen};
 

@@ -2,6 +2,8 @@
 //
 // Rows and levels are counted from 0. A row's words are counted from its own first word, the labels' words from the first
 // of them, the memory's from row 0.
+#![tactic(auto)]
+
 ghost use Rattle.std.specs.Prelude.{◌≡◌, ◌<◌, ◌≤◌};
 ghost use Rattle.places.specs.Places.{state_at, selecting_at, rejecting_at, level_of, part_of, row_length, rows_length, label_at, label_level, work_length};
 

@@ -1,6 +1,8 @@
 // The reports of rows: which are written, and where.
 //
 // Reports are 32-bit words, written from the front of a lent slice; what is past them stays.
+#![tactic(auto)]
+
 ghost use Rattle.std.specs.Prelude.{◌≡◌, ℕ, ◌+◌, ◌*◌, ◌<◌, ◌≤◌, length, get_or};
 ghost use Rattle.meaning.specs.Table.{table_of};
 ghost use Rattle.bodies.specs.Sound.{Sound};

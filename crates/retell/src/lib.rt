@@ -6,6 +6,8 @@
 // and the element that is open there as the last one that was opened at its depth. Names are compared where they stand.
 //
 // An answer is a number and a place. Nothing is assumed of a caller. What is out of reach reads as 0, and is not written.
+#![tactic(auto)]
+
 mod list;
 mod reading;
 mod seeking;

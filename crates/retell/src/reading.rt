@@ -12,7 +12,7 @@ pub const LABELLED: usize = 66;
 // What is said of a text: 0 taken, and how many events there are; 1 the names; 2 a byte, 3 an unknown name, 4 a closing name,
 // 5 the text ends, 6 deep, 7 short, and at which place. What is said of a stream: 0 taken, and how many bytes there are; 1 the
 // names; 2 it cannot go on, and at which place; 3 short.
-#[derive(Drop)]
+#[derive(Clone, Copy)]
 pub struct Told {
     pub kind: usize,
     pub place: usize,

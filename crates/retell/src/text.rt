@@ -55,7 +55,7 @@ pub fn tag_end(text: &[u8], from: usize) -> usize {
 }
 
 // Which tag begins at a place.
-#[derive(Drop)]
+#[derive(Clone, Copy)]
 pub enum Form {
     Nothing,
     Opening,

@@ -2,6 +2,8 @@
 //
 // A row is lent as the part of work memory that it is. Functions here ask for words that are a row (`RowIn`) and for a
 // table that can be stepped by (`Sound`); each leaves the words of the row that the rule names.
+#![tactic(auto)]
+
 ghost use Rattle.std.specs.Prelude.{◌≡◌, not, ◌+◌, ◌<◌, ◌≤◌, length, get_or};
 ghost use Rattle.meaning.specs.Table.{table_of};
 ghost use Rattle.meaning.specs.Masks.{down_of};
@@ -12,7 +14,7 @@ ghost use Rattle.places.specs.Memory.{level_in, row_in, held_in, row_words, RowI
 ghost use Rattle.rows.specs.Steps.{event_of, Can, step_row, on_row, next_state, in_row, is_decided, neither};
 
 // An event that steps every row.
-#[derive(Drop)]
+#[derive(Clone, Copy)]
 pub enum Step {
     Open(u64),
     Point(u64),

@@ -14,7 +14,7 @@ const NEXT: usize = 10240;
 
 // The record that the watch must have, what was taken, and where the stream began: the table's labels, its start state, and
 // the positions that were read before.
-#[derive(Drop)]
+#[derive(Clone, Copy)]
 pub struct Seen {
     pub claim: Claim,
     pub labels: usize,
@@ -25,7 +25,7 @@ pub struct Seen {
 }
 
 // What must come of an event: 0 or the refusal's number, the number of reports, and what is seen then.
-#[derive(Drop)]
+#[derive(Clone, Copy)]
 pub struct Said {
     pub number: u64,
     pub reports: usize,

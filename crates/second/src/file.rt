@@ -99,7 +99,7 @@ pub fn line(applies: bool, number: u64, under: u64) -> u64 {
 
 // The number of a refusal, 0 for none, and what it carries: 7 a place in memory; 3 an entry and its field, which are its part
 // and what is inside; 5 a body and its byte.
-#[derive(Drop)]
+#[derive(Clone, Copy)]
 pub struct Found {
     pub number: u64,
     pub place: usize,

@@ -8,6 +8,8 @@
 //
 // Its memory is lent: a book of 11,264 bytes, of which `events` says what stands where, and a word for each of 64 states. Nothing
 // is assumed of a caller. What is out of reach reads as 0, and is not written.
+#![tactic(auto)]
+
 mod events;
 mod file;
 mod levels;

@@ -7,7 +7,7 @@ use crate::levels::{is_close, is_named_close, label_of};
 use slices::{minus, plus, word};
 
 // What a caller's record says.
-#[derive(Drop)]
+#[derive(Clone, Copy)]
 pub struct Claim {
     pub rows: u64,
     pub allowed: u64,

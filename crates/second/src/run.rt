@@ -4,7 +4,7 @@ use crate::reach::has;
 use slices::{get, plus, word};
 
 // The states put aside and the newest one, at the depth.
-#[derive(Drop)]
+#[derive(Clone, Copy)]
 pub struct Run {
     pub states: [usize; 41],
     pub depth: usize,

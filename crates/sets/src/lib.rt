@@ -3,6 +3,8 @@
 // safe and down go over 64 masks in acc's place. Functions that take a table ask for a file that can be stepped by
 // (`Sound`). Each answers the mask of `meaning` of the same name; that these masks are the smallest sets of 01 is proved
 // there.
+#![tactic(auto)]
+
 ghost use Rattle.std.specs.Prelude.{◌≡◌, ◌<◌, ◌≤◌};
 ghost use Rattle.meaning.specs.Table.{table_of};
 ghost use Rattle.meaning.specs.Masks.{safe_of, into_of, down_of, in_down, ends_of};

@@ -1,5 +1,7 @@
 // Slices read, written and compared where they reach, and numbers that do not go over: what the second evaluator and the trial
 // are written with, so that they are safe on any input. Nothing is assumed of a caller.
+#![tactic(auto)]
+
 ghost use Rattle.std.specs.Prelude.{◌<◌, ◌≤◌};
 
 // A byte, or 0 beyond the end.

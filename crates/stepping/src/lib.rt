@@ -2,6 +2,8 @@
 //
 // The words here are the rows' words of work memory alone. Functions ask that they are such (`Stands`), but for the start,
 // which asks for their number only. Each leaves the words of the rows that the rules name.
+#![tactic(auto)]
+
 ghost use Rattle.std.specs.Prelude.{◌≡◌, ◌++◌, ℕ, ◌+◌, ◌*◌, ◌<◌, ◌≤◌, ltb, length, get_or, drop, replicate};
 ghost use Rattle.meaning.specs.Table.{table_of};
 ghost use Rattle.meaning.specs.Masks.{accs_of};
@@ -16,7 +18,7 @@ ghost use Rattle.stepping.specs.Stepping.{Stands, Counted, Moves, new_of, step_m
 use rows::Step;
 
 // How many positions are alive after an event, and how many it reported.
-#[derive(Drop)]
+#[derive(Clone, Copy)]
 pub struct Counts {
     pub alive: usize,
     pub reports: usize,

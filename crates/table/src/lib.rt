@@ -2,6 +2,8 @@
 //
 // The file's bytes are themselves the table, lent to every call. `read` takes any bytes. The steps ask for a file that
 // `read` takes (`Sound`), and for states and labels below its n and k; each answers what `table_of` the bytes says.
+#![tactic(auto)]
+
 ghost use Rattle.std.specs.Prelude.{◌≡◌, ◌+◌, ◌<◌, ◌≤◌, length};
 ghost use Rattle.meaning.specs.Table.{body_at};
 ghost use Rattle.table.specs.File.{Sizes, header_right, two_bytes, field_right, entry_right, wrong_field, wrong_entry};
@@ -11,7 +13,7 @@ ghost use Rattle.table.specs.File.{field_number, refusal_number, refusal_part, r
 pub use bodies::{apply, is_final, labels, mark, opening, point, start, states};
 
 // A field of a contents entry.
-#[derive(Drop)]
+#[derive(Clone, Copy)]
 pub enum Field {
     Kind,
     Offset,
@@ -31,7 +33,7 @@ impl Field {
 }
 
 // Why a file is refused: 1 to 5 of 01, in order. 3 and 5 name the first wrong place in file order.
-#[derive(Drop)]
+#[derive(Clone, Copy)]
 pub enum Refusal {
     // Under 29 bytes.
     Short,
@@ -87,7 +89,7 @@ impl Refusal {
 }
 
 // What reading a file answers: n and k, or why it is refused.
-#[derive(Drop)]
+#[derive(Clone, Copy)]
 pub enum Reading {
     Taken(u64, u64),
     Refused(Refusal),

@@ -5,6 +5,8 @@
 // numbers: the entry and its field (0 kind, 1 offset, 2 length), or the body and its byte. Then the same answer for the
 // table on standard input and, where it has three states or more, some of its sets: with 01's table W these are the
 // document's cases 1 to 6.
+#![tactic(auto)]
+
 ghost use Rattle.std.specs.Prelude.{◌<◌, ◌≤◌};
 ghost use Rattle.bodies.specs.Sound.{Sound};
 ghost use Rattle.meaning.specs.Table.{table_of};

@@ -6,6 +6,8 @@
 // the event bytes before it are written, then a line on standard error says what is wrong and at which byte of the text,
 // counted from 0; nothing more is read, and no byte 65 is written. A write that fails ends the program; a read that fails
 // counts as the text's end.
+#![tactic(auto)]
+
 use grammar::{Fault, Stop};
 use libc::{STDIN_FILENO, STDOUT_FILENO};
 use tags::reader::Cursor;
@@ -14,7 +16,7 @@ use tags::reader::Cursor;
 const NAMES: usize = names::LONGEST + 1;
 
 // How far the text is read: the cursor, the bytes taken, and whether to go on.
-#[derive(Drop)]
+#[derive(Clone, Copy)]
 struct Following {
     cursor: Cursor,
     taken: u64,

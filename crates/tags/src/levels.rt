@@ -3,7 +3,7 @@ ghost use Rattle.std.specs.Prelude.{◌≡◌};
 ghost use Rattle.tags.specs.Levels.{no_levels, deeper_by, shallower, newest_of};
 
 // The label of each open element, the outermost first, and how many are open. What stands after those does not count.
-#[derive(Drop)]
+#[derive(Clone, Copy)]
 pub struct Levels {
     pub labels: [u8; 40],
     pub depth: usize,

@@ -9,7 +9,7 @@ use grammar::{Fault, Reading, Stop};
 use names::{Label, Word};
 
 // What is begun of a tag: nothing, "<", "</", "<x", "</x" or "<x/".
-#[derive(Drop)]
+#[derive(Clone, Copy)]
 pub enum Within {
     Between,
     Angle,
@@ -20,7 +20,7 @@ pub enum Within {
 }
 
 // How far a text is read: what is begun of a tag, with its name, and the open elements.
-#[derive(Drop)]
+#[derive(Clone, Copy)]
 pub struct Cursor {
     pub within: Within,
     pub name: Word,
@@ -28,7 +28,7 @@ pub struct Cursor {
 }
 
 // What a byte gives: no event, an event, or a fault.
-#[derive(Drop)]
+#[derive(Clone, Copy)]
 pub enum Outcome {
     Nothing,
     Event(u8),
@@ -36,7 +36,7 @@ pub enum Outcome {
 }
 
 // A byte's outcome, and the cursor after it; where the byte is at fault, the cursor as it was.
-#[derive(Drop)]
+#[derive(Clone, Copy)]
 pub struct Stepped {
     pub next: Cursor,
     pub outcome: Outcome,
@@ -259,7 +259,7 @@ pub fn step(names: &[u8], cursor: Cursor, byte: u8) -> Stepped
 
 // What became of a piece of text: where it led, how many bytes were taken, how many events were given, and the fault that
 // stopped it at the next byte.
-#[derive(Drop)]
+#[derive(Clone, Copy)]
 pub struct Fed {
     pub next: Cursor,
     pub taken: usize,

@@ -13,14 +13,14 @@ use grammar::{Fault, Stop, Writing};
 use names::Word;
 
 // How far a stream is written: the open elements, and whether byte 65 was read.
-#[derive(Drop)]
+#[derive(Clone, Copy)]
 pub struct Scribe {
     pub levels: Levels,
     pub ended: bool,
 }
 
 // The three forms of a tag: <x>, </x> and <x/>.
-#[derive(Drop)]
+#[derive(Clone, Copy)]
 pub enum Form {
     Opening,
     Closing,
@@ -28,7 +28,7 @@ pub enum Form {
 }
 
 // What an event gives: nothing, which is the end's, a tag, or a fault.
-#[derive(Drop)]
+#[derive(Clone, Copy)]
 pub enum Given {
     Nothing,
     Tag(Form),
@@ -36,7 +36,7 @@ pub enum Given {
 }
 
 // What an event gives, with the tag's name, and the scribe after it; where the event is at fault, the scribe as it was.
-#[derive(Drop)]
+#[derive(Clone, Copy)]
 pub struct Spelled {
     pub next: Scribe,
     pub given: Given,
@@ -44,14 +44,14 @@ pub struct Spelled {
 }
 
 // Room for tags: how much of it is left, and whether all of them fitted.
-#[derive(Drop)]
+#[derive(Clone, Copy)]
 struct Space {
     pub left: usize,
     pub fits: bool,
 }
 
 // Where events lead without being written: how many are taken, what room their tags leave, and whether the next stops them.
-#[derive(Drop)]
+#[derive(Clone, Copy)]
 struct Followed {
     pub next: Scribe,
     pub taken: usize,
@@ -61,7 +61,7 @@ struct Followed {
 
 // What a piece of a stream comes to: the scribe after it, how many events are taken, how many bytes are written, and
 // whether the next event stops it.
-#[derive(Drop)]
+#[derive(Clone, Copy)]
 pub struct Wrote {
     pub next: Scribe,
     pub taken: usize,

@@ -6,6 +6,8 @@
 // to a fault, the fault and its place; of a stream its answer, with the place, and every byte of the output; the same stream
 // written in two pieces, up to a fault, its place and every byte. What is read is written, and what is written is read back, and
 // gives the same events with each close labelled; these are written as the same text. Each is done with room enough and with less.
+#![tactic(auto)]
+
 mod compare;
 mod feeding;
 mod putting;

@@ -2,6 +2,8 @@
 //
 // What is asked here of table, record, work memory and room for reports is that none of the refusals 1 to 8 applies (`Clear`).
 // The answers are those of the event call.
+#![tactic(auto)]
+
 ghost use Rattle.std.specs.Prelude.{◌≡◌, ◌<◌, ◌≤◌, length};
 ghost use Rattle.meaning.specs.Table.{table_of};
 ghost use Rattle.bodies.specs.Sound.{Sound};

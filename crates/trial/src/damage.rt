@@ -10,7 +10,7 @@ use second::{Claim, Found};
 
 // What is damaged: bits of one or two bytes of the file, bits of a word of memory, how much is cut off the file, the memory and
 // the reports, and the record.
-#[derive(Drop)]
+#[derive(Clone, Copy)]
 struct Harm {
     file_at: usize,
     file_bits: u8,

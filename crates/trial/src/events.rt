@@ -5,7 +5,7 @@ use making::{between, draw, is_one_in};
 use second::{Said, Seen};
 
 // How a stream goes.
-#[derive(Drop)]
+#[derive(Clone, Copy)]
 enum Manner {
     Mixed,
     Deep,
@@ -88,7 +88,7 @@ fn is_over(desk: &mut [u64], seen: Seen) -> bool {
 }
 
 // Where both sides are, and whether the stream is over.
-#[derive(Drop)]
+#[derive(Clone, Copy)]
 struct Both {
     record: Record,
     seen: Seen,
@@ -313,7 +313,7 @@ fn begin_stream(
 }
 
 // What is drawn for a stream: rows and depth, the room for reports, just enough or more, its manner, and the events.
-#[derive(Drop)]
+#[derive(Clone, Copy)]
 struct Sizes {
     rows: usize,
     depth: usize,

@@ -5,6 +5,8 @@
 // record; of both the words of the levels in memory; and of whatever is refused that it wrote nothing. Before each event the
 // same call is made with a damage, in the file, the record, the memory or the lengths, of which the number, the place and the
 // words of the levels are compared. After each stream some starts are made with a damage.
+#![tactic(auto)]
+
 mod damage;
 mod events;
 mod memory;

@@ -5,6 +5,8 @@
 // for. Byte 65 ends the stream: bytes after a taken 65 are not read, since a live source may stay open. At the first byte,
 // or the input's end, at which no whole stream goes on, the tags before it are written, then a line on standard error says
 // so, with the place counted from 0. A write that fails ends the program; a read that fails counts as the input's end.
+#![tactic(auto)]
+
 use grammar::{Fault, Stop};
 use libc::STDIN_FILENO;
 use tags::writer::Scribe;
@@ -19,7 +21,7 @@ const BLOCK: usize = 4096;
 const TAGS: usize = 77824;
 
 // How far the stream is written: the scribe, the bytes taken, and whether to go on.
-#[derive(Drop)]
+#[derive(Clone, Copy)]
 struct Following {
     scribe: Scribe,
     taken: u64,

@@ -4,6 +4,8 @@
 // Input is read and output written in large blocks. What was reported is written out before more input is waited for, so
 // that a simulator on a pipe is answered live. A write that fails ends the program; a read that fails counts as the
 // input's end.
+#![tactic(auto)]
+
 use engine::{Outcome, Record, Refusal};
 use libc::STDIN_FILENO;
 use table::Field;
@@ -12,7 +14,7 @@ use table::Field;
 const EVENT_LINES: usize = 4096;
 
 // How far the stream is followed: the record, the events taken, the bytes of output not yet written, and whether to go on.
-#[derive(Drop)]
+#[derive(Clone, Copy)]
 struct Following {
     record: Record,
     events: u64,

@@ -1,4 +1,6 @@
 // Words of lent memory, set to 0 or copied.
+#![tactic(auto)]
+
 ghost use Rattle.std.specs.Prelude.{◌≡◌, ◌⊎◌, ◌+◌, ◌≤◌, length, drop, replicate};
 ghost use Rattle.std.proofs.Math.Seq.{paste};
 
