@@ -16,7 +16,7 @@ import re
 import sys
 
 NAME = r"[A-Za-z][\w'-]*"
-DECLARED = re.compile(rf"(?m)^[ ]*(?:(?:pub|abbrev|unfoldable) )*({NAME})(?: \{{[^{{}}\n]*\}})* :(?= )")
+DECLARED = re.compile(rf"(?m)^[ ]*(?:(?:pub|abbrev|unfoldable) )*({NAME})(?: \{{[^{{}}\n]*\}})* :(?=\s)")
 TOKEN = re.compile(r"(?<![\w'◌-])[A-Za-z][\w'-]*(?![\w'◌])")
 # A clause, a ghost item or a ghost block of a .rt file.
 GHOST = re.compile(r"(?m)^ *ghost use [^;]*;|^ *(?:pub )?ghost [^;{]*[;{][^}]*\}?|\b(?:requires|ensures)\*?(?: \w+)? \{.*\}$")

@@ -16,10 +16,10 @@ module _ {f : List ℕ} (sound : Sound f) (i : ℕ) (kind : i < 5) where
   byte_inside at j e l = omega (arith, sound.size, body_within (states_in f) (labels_in f) i kind)
 
 -- A cell is a byte of its body, and its place there is a small number.
-pub cell-inside :
+pub cell_inside :
     {f : List ℕ} {i w q a : ℕ} → Sound f → CellOf f i w q a →
     (q * w + a < body_length (states_in f) (labels_in f) i) × (q * w + a < 6333)
-cell-inside {f} {i} {w} {q} {a} sound cell =
+cell_inside {f} {i} {w} {q} {a} sound cell =
     let l : q * w + a < body_length (states_in f) (labels_in f) i = rw cell.rows at (digits_lt cell.row_in cell.column_in) in
     let wf = sound.formed in
     (l, omega (arith, body_within (states_in f) (labels_in f) i cell.kind, file_small (states_in f) (labels_in f) wf.few_states wf.few_labels))

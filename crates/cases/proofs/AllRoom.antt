@@ -58,10 +58,10 @@ alike rows rows' [] = room.none
 alike rows rows' (b ∷ bytes) = room.over refl (enough rows ∙ sym (enough rows')) (alike rows rows' bytes)
 
 -- What is told with little room is told with all, where nothing wanted room.
-pub with-all-room :
+pub with_all_room :
     (f : List ℕ) (rows depth : ℕ) (bytes : List ℕ) (told : List Shown) → rows ≤ 64 → depth ≤ 40 → Started f 64 40 (before 64 40) →
     T (none_wanted told) → Says (Tells f rows depth bytes told) → Says (Tells f 64 40 bytes told)
-with-all-room f rows depth bytes told few shallow started none says =
+with_all_room f rows depth bytes told few shallow started none says =
     let same = more_room f rows depth 64 40 few shallow (before rows depth) (before 64 40) says.0 started (map (calling rows) bytes) (map (calling 64) bytes) (alike rows 64 bytes)
     (no_want (told_all f (begun f rows depth (before rows depth)) (map (calling rows) bytes)) (subst (λ xs. T (none_wanted xs)) (sym says.1) none)) in
     (started, ap (map (λ (x : Told). shown x.outcome x.words)) (sym same.same_told) ∙ says.1)
@@ -79,10 +79,10 @@ met = (refl, refl, refl)
 
 -- Cases 7, 9 and 10 with 64 rows and depth 40.
 pub seventh : Says (Tells table_w 64 40 (0 ∷ 33 ∷ []) (reports [] ∷ reports (3 ∷ 4 ∷ []) ∷ []))
-seventh = with-all-room table_w 2 2 (0 ∷ 33 ∷ []) _ (omega arith) (omega arith) met.0 tt all_hold.1.1.1.1.1.1.0.0
+seventh = with_all_room table_w 2 2 (0 ∷ 33 ∷ []) _ (omega arith) (omega arith) met.0 tt all_hold.1.1.1.1.1.1.0.0
 
 pub ninth : Says (Tells table_l 64 40 (32 ∷ 32 ∷ 65 ∷ []) (reports [] ∷ reports (2 ∷ []) ∷ reports (5 ∷ []) ∷ []))
-ninth = with-all-room table_l 1 2 (32 ∷ 32 ∷ 65 ∷ []) _ (omega arith) (omega arith) met.1 tt all_hold.1.1.1.1.1.1.1.1.0.0
+ninth = with_all_room table_l 1 2 (32 ∷ 32 ∷ 65 ∷ []) _ (omega arith) (omega arith) met.1 tt all_hold.1.1.1.1.1.1.1.1.0.0
 
 pub tenth : Says (Tells table_l 64 40 (0 ∷ 32 ∷ []) (reports (2 ∷ []) ∷ reports (4 ∷ []) ∷ []))
-tenth = with-all-room table_l 2 2 (0 ∷ 32 ∷ []) _ (omega arith) (omega arith) met.1 tt all_hold.1.1.1.1.1.1.1.1.1.0.0
+tenth = with_all_room table_l 2 2 (0 ∷ 32 ∷ []) _ (omega arith) (omega arith) met.1 tt all_hold.1.1.1.1.1.1.1.1.1.0.0

@@ -79,9 +79,9 @@ ours_meets =
     record {
       start_is = λ f rows depth work. refl;
       start_work_is = λ f rows depth work. refl;
-      event-is = λ f r work reports byte. refl;
+      event_is = λ f r work reports byte. refl;
       work_is = λ f r work reports byte. refl;
-      reports-is = λ f r work reports byte. refl;
+      reports_is = λ f r work reports byte. refl;
     }
 
 positions_on : (t : Table) (r : Record) (work : List ℕ) (e : Event) → (taking t r work e).next.positions ≡ r.positions + positions_in e
@@ -95,17 +95,17 @@ positions_on t r work Unknown = omega arith
 module _ (p : Program) (meets : Meets p) where
   module _ (f : List ℕ) (r : Record) (work reports : List ℕ) (byte : ℕ) where
     number_is : outcome_number (p.event f r work reports byte).outcome ≡ outcome_number (event_answer f r work reports byte).outcome
-    number_is = ap (λ (x : Answer). outcome_number x.outcome) (meets.event-is f r work reports byte)
+    number_is = ap (λ (x : Answer). outcome_number x.outcome) (meets.event_is f r work reports byte)
 
     count_is : count_of (p.event f r work reports byte).outcome ≡ count_of (event_answer f r work reports byte).outcome
-    count_is = ap (λ (x : Answer). count_of x.outcome) (meets.event-is f r work reports byte)
+    count_is = ap (λ (x : Answer). count_of x.outcome) (meets.event_is f r work reports byte)
 
-    reads-is :
+    reads_is :
         take (count_of (p.event f r work reports byte).outcome) (p.reports f r work reports byte)
         ≡ take (count_of (event_answer f r work reports byte).outcome) (event_reports f r work reports byte)
-    reads-is =
+    reads_is =
         ap (λ (n : ℕ). take n (p.reports f r work reports byte)) count_is
-        ∙ ap (take (count_of (event_answer f r work reports byte).outcome)) (meets.reports-is f r work reports byte)
+        ∙ ap (take (count_of (event_answer f r work reports byte).outcome)) (meets.reports_is f r work reports byte)
 
   -- The first event of the two, and the second.
   abbrev one : Watching
@@ -130,8 +130,8 @@ module _ (p : Program) (meets : Meets p) where
   reports_not_always words h =
       let first = h table_w one.now one.work (calling 2 0).lent 0 (number_is table_w one.now one.work (calling 2 0).lent 0 ∙ two_events.1) in
       let second = h table_w two.now two.work (calling 2 33).lent 33 (number_is table_w two.now two.work (calling 2 33).lent 33 ∙ two_events.6) in
-      let none : words ≡ [] = sym first ∙ reads-is table_w one.now one.work (calling 2 0).lent 0 ∙ two_events.4 in
-      let both : words ≡ 3 ∷ 4 ∷ [] = sym second ∙ reads-is table_w two.now two.work (calling 2 33).lent 33 ∙ two_events.8 in
+      let none : words ≡ [] = sym first ∙ reads_is table_w one.now one.work (calling 2 0).lent 0 ∙ two_events.4 in
+      let both : words ≡ 3 ∷ 4 ∷ [] = sym second ∙ reads_is table_w two.now two.work (calling 2 33).lent 33 ∙ two_events.8 in
       let z : ◌≡◌ {A = ℕ} 0 2 = ap length (sym none ∙ both) in
       omega (arith, z)
 
@@ -143,7 +143,7 @@ module _ (p : Program) (meets : Meets p) where
 
   pub writes_reports : ¬ WritesNoReports p
   writes_reports h =
-      let same = sym (meets.reports-is table_w two.now two.work (calling 2 33).lent 33) ∙ h table_w two.now two.work (calling 2 33).lent 33 in
+      let same = sym (meets.reports_is table_w two.now two.work (calling 2 33).lent 33) ∙ h table_w two.now two.work (calling 2 33).lent 33 in
       let front = ap (λ (n : ℕ). take n (event_reports table_w two.now two.work (calling 2 33).lent 33)) two_events.7 in
       let lent : take 2 (event_reports table_w two.now two.work (calling 2 33).lent 33) ≡ 9 ∷ 9 ∷ [] = ap (take 2) same in
       let z : ◌≡◌ {A = ℕ} 3 9 = ap (λ (ws : List ℕ). get_or ws 0 0) (sym two_events.8 ∙ front ∙ lent) in
@@ -155,7 +155,7 @@ module _ (p : Program) (meets : Meets p) where
   -- What the second event is told, with a table and a memory.
   tells : (f : List ℕ) (work words : List ℕ) (given_is : take (count_of (event_answer f two.now work (calling 2 33).lent 33).outcome) (event_reports f two.now work (calling 2 33).lent 33) ≡ words)
       (script : List ℕ) → take (count_of (p.event f two.now work (calling 2 33).lent 33).outcome) (p.reports f two.now work (calling 2 33).lent 33) ≡ script → script ≡ words
-  tells f work words given_is script e = sym e ∙ reads-is f two.now work (calling 2 33).lent 33 ∙ given_is
+  tells f work words given_is script e = sym e ∙ reads_is f two.now work (calling 2 33).lent 33 ∙ given_is
 
   pub looks_at_the_table : (script : Record → List ℕ → ℕ → List ℕ) → ¬ IgnoresTable p script
   looks_at_the_table script h =
@@ -192,6 +192,6 @@ module _ (p : Program) (meets : Meets p) where
   pub counts_positions : ¬ MakesUpPositions p
   counts_positions (x, differs) =
       differs
-      (ap (λ (y : Answer). y.next.positions) (meets.event-is x.f x.r x.work x.reports x.byte)
+      (ap (λ (y : Answer). y.next.positions) (meets.event_is x.f x.r x.work x.reports x.byte)
       ∙ ap (λ (y : Record). y.positions) (step_demand_2 x.f x.r x.work x.reports x.byte (taken_too x)).next
       ∙ positions_on (table_of x.f) x.r x.work (meaning_of x.byte))

@@ -21,11 +21,11 @@ pub record Program : Type 0 where
 pub record Meets (p : Program) : Type 0 where
   pub start_is : (f : List ℕ) (rows depth : ℕ) (work : List ℕ) → p.start f rows depth work ≡ start_answer f rows depth work
   pub start_work_is : (f : List ℕ) (rows depth : ℕ) (work : List ℕ) → p.start_work_lem f rows depth work ≡ start_work f rows depth work
-  pub event-is :
+  pub event_is :
       (f : List ℕ) (r : Record) (work reports : List ℕ) (byte : ℕ) → p.event f r work reports byte ≡ event_answer f r work reports byte
   pub work_is :
       (f : List ℕ) (r : Record) (work reports : List ℕ) (byte : ℕ) → p.work f r work reports byte ≡ event_work f r work reports byte
-  pub reports-is :
+  pub reports_is :
       (f : List ℕ) (r : Record) (work reports : List ℕ) (byte : ℕ) → p.reports f r work reports byte ≡ event_reports f r work reports byte
 
 -- How many positions an event has.

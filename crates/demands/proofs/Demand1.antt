@@ -17,11 +17,11 @@ use Rattle.judge.specs.declared.Judged.{Judged}
 use Rattle.judge.specs.declared.Judged.TheVariants.{Fine, Refused}
 use Rattle.judge.specs.Judging.{judged_rank, start_lines}
 use Rattle.engine.specs.Calls.{After, lines, answer_of, event_judged, event_after, event_answer, start_judged, start_after, start_answer}
-use Rattle.engine.proofs.Numbers.{answer_rank, event-exactly, event-taken, refused-keeps, start-exactly, start-taken, start-refused-keeps}
+use Rattle.engine.proofs.Numbers.{answer_rank, event_exactly, event_taken, refused_keeps, start_exactly, start_taken, start_refused_keeps}
 use Rattle.demands.specs.Watching.{count_of}
 use Rattle.demands.specs.Demands.{Demand1, StartDemand1}
 use Rattle.demands.proofs.FirstWrong.{place_is}
-use Rattle.demands.proofs.Named.{event-named, start-named}
+use Rattle.demands.proofs.Named.{event_named, start_named}
 
 -- Every number of a list is below k.
 abbrev below : ℕ → List ℕ → Bool
@@ -51,24 +51,24 @@ demand_1 f r work reports byte =
     let j = event_judged f r work reports byte in
     let after = event_after f r work byte in
     record {
-      refused_exactly = event-exactly f r work reports byte;
+      refused_exactly = event_exactly f r work reports byte;
       numbered = outcome_at_rank (event_answer f r work reports byte).outcome;
-      taken_exactly = event-taken f r work reports byte;
+      taken_exactly = event_taken f r work reports byte;
       answered = answer_below 17 j r after (given_below 17 (lines f r work (length reports) (meaning_of byte)) tt);
       place = place_is f r work reports byte;
-      named = event-named f r work reports byte;
+      named = event_named f r work reports byte;
       kept = λ h.
-          let k = refused-keeps f r work reports byte h in
+          let k = refused_keeps f r work reports byte h in
           (k.0, none_counted j r after h, k.1, k.2);
     }
 
 pub start_demand_1 : (f : List ℕ) (rows depth : ℕ) (work : List ℕ) → StartDemand1 f rows depth work
 start_demand_1 f rows depth work =
     record {
-      refused_exactly = start-exactly f rows depth work;
+      refused_exactly = start_exactly f rows depth work;
       numbered = outcome_at_rank (start_answer f rows depth work).outcome;
-      taken_exactly = start-taken f rows depth work;
+      taken_exactly = start_taken f rows depth work;
       answered = answer_below 7 (start_judged f rows depth work) no_record (start_after f rows depth) (given_below 7 (start_lines f rows depth (length work)) tt);
-      named = start-named f rows depth work;
-      kept = start-refused-keeps f rows depth work;
+      named = start_named f rows depth work;
+      kept = start_refused_keeps f rows depth work;
     }

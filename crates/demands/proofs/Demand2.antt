@@ -123,7 +123,7 @@ module _ (f : List ℕ) (rows depth : ℕ) (s : Watching) (follow : Follows f ro
         alive_is = alive_count;
         finished_is = n.3;
         room_is = (n.0, n.1);
-        memory-is = λ e. follow.work_is ∙ ap (work_at t rows depth w) e;
+        memory_is = λ e. follow.work_is ∙ ap (work_at t rows depth w) e;
         memory_after_end = λ e. follow.work_is ∙ ap (work_at t rows depth w) e;
       }
 

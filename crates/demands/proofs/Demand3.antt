@@ -88,13 +88,13 @@ so_far_watching f rows depth work h cs =
 ---------------------------------------------------------------- what was decided stays decided
 
 -- A property of streams that every taken event keeps.
-kept-by-calls :
+kept_by_calls :
     (f : List ℕ) (rows depth : ℕ) (P : Stream → Type 0) →
     ((before after : Stream) (words : List ℕ) → Goes (table_of f) before after words → P before → P after) →
     (cs : List Call) (s : Watching) → Follows f rows depth s → P s.stream → P (called_all f s cs).stream
-kept-by-calls f rows depth P keeps [] s follow h = h
-kept-by-calls f rows depth P keeps (c ∷ cs) s follow h =
-    kept-by-calls f rows depth P keeps cs (called f s c) (follows_call f rows depth s follow c) (go (judged_of f s c) refl)
+kept_by_calls f rows depth P keeps [] s follow h = h
+kept_by_calls f rows depth P keeps (c ∷ cs) s follow h =
+    kept_by_calls f rows depth P keeps cs (called f s c) (follows_call f rows depth s follow c) (go (judged_of f s c) refl)
   where
     go : (j : Judged) → judged_of f s c ≡ j → P (called f s c).stream
     go Fine fine = keeps s.stream (called f s c).stream (given f s c) (goes_on f rows depth s follow c fine) h
@@ -140,15 +140,15 @@ module _ (f : List ℕ) (rows depth : ℕ) (s : Watching) (follow : Follows f ro
   standing_demand_3 far =
       record {
         rows_are_alive = rows_alive;
-        rows-are-theirs = λ h m. theirs_at s.stream.ended h (subst (In h) rows_now m);
-        decided-in-no-row = λ i d m. let (r, a) = (rows_alive.exactly i).0 m in ⊎_elim a.0 a.1 d;
-        reported-selected = far.selected;
-        reported-failed = far.failed;
-        never-overturned = λ i further. (
-          λ m. kept-by-calls f rows depth (λ x. CertainIn t x i) (λ b a words g. g.certain_stays i) further s follow ((far.selected i).0 m).1,
-          λ m. kept-by-calls f rows depth (λ x. RuledOutIn t x i) (λ b a words g. g.ruled_out_stays i) further s follow ((far.failed i).0 m).1,
+        rows_are_theirs = λ h m. theirs_at s.stream.ended h (subst (In h) rows_now m);
+        decided_in_no_row = λ i d m. let (r, a) = (rows_alive.exactly i).0 m in ⊎_elim a.0 a.1 d;
+        reported_selected = far.selected;
+        reported_failed = far.failed;
+        never_overturned = λ i further. (
+          λ m. kept_by_calls f rows depth (λ x. CertainIn t x i) (λ b a words g. g.certain_stays i) further s follow ((far.selected i).0 m).1,
+          λ m. kept_by_calls f rows depth (λ x. RuledOutIn t x i) (λ b a words g. g.ruled_out_stays i) further s follow ((far.failed i).0 m).1,
         );
-        end-decides = λ e i r. decided_at s.stream.ended e i;
+        end_decides = λ e i r. decided_at s.stream.ended e i;
       }
 
 module _ (f : List ℕ) (rows depth : ℕ) (s : Watching) (follow : Follows f rows depth s) (c : Call) where
@@ -160,7 +160,7 @@ module _ (f : List ℕ) (rows depth : ℕ) (s : Watching) (follow : Follows f ro
       record {
         timely = g.timely;
         nothing_else = λ words h. timely_same (table_of f) s.stream (called f s c).stream words (given f s c) h g.timely;
-        end-reports-all = λ e i r a.
+        end_reports_all = λ e i r a.
             ⊎_elim (λ h. inl ((g.timely.selected i).1 (pending i r a, h))) (λ h. inr ((g.timely.failed i).1 (pending i r a, h)))
             (decided_at f rows depth (called f s c) (follows_call f rows depth s follow c) (called f s c).stream.ended e i);
       }

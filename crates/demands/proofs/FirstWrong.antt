@@ -25,7 +25,7 @@ use Rattle.judge.specs.declared.Judged.{Judged}
 use Rattle.judge.specs.declared.Judged.TheVariants.{Fine, Refused}
 use Rattle.judge.specs.Judging.{judged_rank, record_right, shape_of, fault_of, is_fault, fault_at}
 use Rattle.engine.specs.Calls.{After, lines, answer_of, event_after, event_answer}
-use Rattle.engine.proofs.Numbers.{event-exactly}
+use Rattle.engine.proofs.Numbers.{event_exactly}
 use Rattle.demands.specs.Demands.{FaultAt}
 
 first_wrong_lem : (s : Shape) (words : List ℕ) (i : ℕ) → first_fault s words ≡ At i → First (word_right s words) 0 (length words) i
@@ -56,7 +56,7 @@ pub place_is :
     (f : List ℕ) (r : Record) (work reports : List ℕ) (byte i : ℕ) →
     (event_answer f r work reports byte).outcome ≡ outcome.Refused (why.Order i) → FaultAt r (table_of f).states (table_of f).labels work i
 place_is f r work reports byte i e =
-    let first = (event-exactly f r work reports byte 6 (omega arith)).0 (ap outcome_rank e) in
+    let first = (event_exactly f r work reports byte 6 (omega arith)).0 (ap outcome_rank e) in
     let p : Place = fault_of r (table_of f).states (table_of f).labels work in
     let told : Refused (why.Order (fault_at p)) ≡ Refused (why.Order i) =
     sym (first_gives judged_rank Fine (lines f r work (length reports) (meaning_of byte)) 6 first) ∙ by_judgement _ r (event_after f r work byte) (why.Order i) e in

@@ -30,9 +30,9 @@ use Rattle.answers.specs.Record.{no_record, with_alive, finished_of}
 use Rattle.judge.specs.declared.Judged.{Judged}
 use Rattle.judge.specs.declared.Judged.TheVariants.{Fine, Refused}
 use Rattle.judge.specs.Judging.{judged_number, table_lines, sizes_right, start_lines}
-use Rattle.judge.proofs.Passed.{EventPassed, passed, event-passed, start-passed}
+use Rattle.judge.proofs.Passed.{EventPassed, passed, event_passed, start_passed}
 use Rattle.engine.specs.Calls.{After, step_record, memory_of, labels_of, taking, answer_of, unless, event_answer, start_judged, start_after}
-use Rattle.engine.proofs.Numbers.{event-taken, start-taken}
+use Rattle.engine.proofs.Numbers.{event_taken, start_taken}
 use Rattle.following.specs.Following.{memory_after}
 use Rattle.following.proofs.Ordered.{work_length_lem, memory_back, labels_back}
 use Rattle.following.proofs.Labels.{open_append, open_levels}
@@ -73,9 +73,9 @@ pub record Follows (f : List ℕ) (rows depth : ℕ) (s : Watching) : Type 0 whe
 
 pub follows_start : (f : List ℕ) (rows depth : ℕ) (work : List ℕ) → Started f rows depth work → Follows f rows depth (begun f rows depth work)
 follows_start f rows depth work h =
-    let none = (start-taken f rows depth work).0 h in
+    let none = (start_taken f rows depth work).0 h in
     let fine : start_judged f rows depth work ≡ Fine = none_taken judged_number Fine (start_lines f rows depth (length work)) none in
-    let p = start-passed f rows depth (length work) fine in
+    let p = start_passed f rows depth (length work) fine in
     record {
       formed = p.sound.formed;
       file_right = λ i l. sym (front_applies (table_lines f) _ i l) ∙ none i;
@@ -190,7 +190,7 @@ module _ (f : List ℕ) (rows depth : ℕ) (s : Watching) (follow : Follows f ro
       passed_as e is =
           subst (λ (r : Record). EventPassed (labels_in f) r e) now_before
           (subst (EventPassed (labels_in f) s.now) is
-          (event-passed f s.work s.now (length c.lent) (meaning_of c.byte) free))
+          (event_passed f s.work s.now (length c.lent) (meaning_of c.byte) free))
 
       -- An open, point or close.
       module _ (e : stream.Event) (means : Means (meaning_of c.byte) e) where
@@ -260,7 +260,7 @@ module _ (f : List ℕ) (rows depth : ℕ) (s : Watching) (follow : Follows f ro
         fits : length (memory_after t (next e)).alive ≤ rows
         fits =
             let taken : outcome_number (event_answer f s.now s.work c.lent c.byte).outcome ≡ 0 = ap (λ (x : Answer). outcome_number x.outcome) (taken_answer f s.now s.work c.lent c.byte fine) in
-            let some : (after_of f s c).next.alive ≤ s.now.rows = ltb-false s.now.rows (after_of f s c).next.alive ((event-taken f s.now s.work c.lent c.byte).0 taken 15) in
+            let some : (after_of f s c).next.alive ≤ s.now.rows = ltb-false s.now.rows (after_of f s c).next.alive ((event_taken f s.now s.work c.lent c.byte).0 taken 15) in
             let alive : (after_of f s c).next.alive ≡ length (memory_after t (next e)).alive = ap (λ (a : After). a.next.alive) (after_event (early fine) e means) in
             let all : s.now.rows ≡ rows = ap (λ (r : Record). r.rows) (now_before (early fine)) in
             omega (arith, some, alive, all)

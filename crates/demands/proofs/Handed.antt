@@ -83,9 +83,9 @@ module _ (f : List ℕ) (rows depth : ℕ) (s : Watching) (follow : Follows f ro
       newest_back t.states rows depth follow.levels (memory_after t w) follow.few_levels follow.deep follow.room
       (memory_good t follow.formed follow.reads) a o
 
-  labels-judged :
+  labels_judged :
       s.stream.ended ≡ false → (x : Event) → closes_another s.now.depth (newest_word s.now s.work) x ≡ closes_other (open_after [] w) x
-  labels-judged e x =
+  labels_judged e x =
       let words : List ℕ = work_at t rows depth w false in
       ap (λ (r : Record). closes_another r.depth (newest_word r s.work) x) (now_going f rows depth s follow e)
       ∙ ap (λ (ws : List ℕ). closes_another follow.levels (get_or (labels_part rows depth ws) (label_at follow.levels) 0) x) (work_going f rows depth s follow e)
@@ -99,7 +99,7 @@ module _ (f : List ℕ) (rows depth : ℕ) (s : Watching) (follow : Follows f ro
         size_right = rw ((numbers_now f rows depth s follow).0, (numbers_now f rows depth s follow).1, work_long f rows depth s follow, follow.sized);
         in_order = ap is_fault no_fault;
         going_on = (numbers_now f rows depth s follow).3;
-        labels_right = λ e. labels-judged e (meaning_of c.byte);
+        labels_right = λ e. labels_judged e (meaning_of c.byte);
       }
 
 pub handed : (f : List ℕ) (rows depth : ℕ) (work : List ℕ) → Started f rows depth work → (cs : List Call) (c : Call) → Handed f rows (watching f rows depth work cs) c

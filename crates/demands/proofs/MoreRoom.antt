@@ -130,10 +130,10 @@ module _ (f : List ℕ) (rows depth rows' depth' : ℕ) (more_rows : rows ≤ ro
   event = meaning_of c.byte
 
   -- Both have the same open, so a close names another label for both or for none.
-  same-labels :
+  same_labels :
       s.stream.ended ≡ false →
       closes_another s.now.depth (newest_word s.now s.work) event ≡ closes_another s'.now.depth (newest_word s'.now s'.work) event
-  same-labels e =
+  same_labels e =
       (next_handed f rows depth s beside.one c).labels_right e
       ∙ ap (λ (x : Stream). closes_other (open_after [] x.events) event) beside.same_stream
       ∙ sym ((next_handed f rows' depth' s' beside.other c).labels_right (same_ended ∙ e))
@@ -167,7 +167,7 @@ module _ (f : List ℕ) (rows depth rows' depth' : ℕ) (more_rows : rows ≤ ro
           (Looser.same refl
           (Looser.same refl
           (Looser.same (ap (λ d. closes_nothing d event) same_depth)
-          (Looser.same (same-labels h)
+          (Looser.same (same_labels h)
           (Looser.wants (inl refl) (too_deep_less event _ _ _ _ same_depth deeper)
           (Looser.same (ap (λ d. ends_open d event) same_depth)
           (Looser.same (ap (λ p. out_of_positions p event) same_positions)

@@ -17,8 +17,8 @@ use Rattle.reports.specs.Reports.{reports_of, end_reports}
 use Rattle.stepping.specs.Stepping.{step_memory}
 use Rattle.following.specs.Following.{memory_after}
 use Rattle.following.proofs.Stays as stays
-use Rattle.following.proofs.Reported.{Waits, selected-when, failed-when, reports_rise}
-use Rattle.following.proofs.Ends.{end-selected, end-failed, ends_rise}
+use Rattle.following.proofs.Reported.{Waits, selected_when, failed_when, reports_rise}
+use Rattle.following.proofs.Ends.{end_selected, end_failed, ends_rise}
 use Rattle.demands.specs.Watching.{Stream}
 use Rattle.demands.specs.Demands.{Timely}
 use Rattle.demands.specs.Deciding.{Read, CertainIn, RuledOutIn, AliveIn, Pending}
@@ -62,8 +62,8 @@ module _ (t : Table) (wf : WellFormed t) {w : List Event} {d g : ℕ} (e : Event
         decides = λ i h. earliest.decided t wf i r h.1;
         never_both = λ i. earliest.never_both t i (reads_join r re);
         timely = record {
-          selected = λ i. Iff.trans (selected-when t wf e r re i) (Iff.and (pending_is i) (λ h. h, λ h. h));
-          failed = λ i. Iff.trans (failed-when t wf e r re i) (Iff.and (pending_is i) (λ h. h, λ h. h));
+          selected = λ i. Iff.trans (selected_when t wf e r re i) (Iff.and (pending_is i) (λ h. h, λ h. h));
+          failed = λ i. Iff.trans (failed_when t wf e r re i) (Iff.and (pending_is i) (λ h. h, λ h. h));
           ascending = reports_rise t wf e r re;
         };
       }
@@ -108,8 +108,8 @@ module _ (t : Table) (wf : WellFormed t) {w : List Event} (r : Whole t w) where
         decides = λ i h. earliest.decided t wf i r h.1;
         never_both = λ i h g. g [] refl (h [] refl);
         timely = record {
-          selected = λ i. Iff.trans (end-selected t wf r i) (Iff.and (pending_end i) (over_selects t w i));
-          failed = λ i. Iff.trans (end-failed t wf r i) (Iff.and (pending_end i) (over_fails t w i));
+          selected = λ i. Iff.trans (end_selected t wf r i) (Iff.and (pending_end i) (over_selects t w i));
+          failed = λ i. Iff.trans (end_failed t wf r i) (Iff.and (pending_end i) (over_fails t w i));
           ascending = ends_rise t w;
         };
       }

@@ -10,7 +10,7 @@ use Rattle.meaning.specs.Table.{Table}
 use Rattle.meaning.specs.Streams.{positions}
 use Rattle.reports.specs.Reports.{selected_word, failed_word}
 use Rattle.following.specs.Lists.{In, times}
-use Rattle.following.proofs.Lists.{in_left, in_right, in_cases, in_as, in_nil, times_append, times_none, times-once}
+use Rattle.following.proofs.Lists.{in_left, in_right, in_cases, in_as, in_nil, times_append, times_none, times_once}
 use Rattle.demands.specs.Watching.{Stream}
 use Rattle.demands.specs.Deciding.{Read, CertainIn, RuledOutIn, AliveIn, Pending}
 use Rattle.demands.proofs.Timely.{word_is}
@@ -67,8 +67,8 @@ module _ (t : Table) (before after : Stream) (words more : List ℕ) (far : SoFa
 
   -- One that waited and is decided now is reported once.
   now_once : (i : ℕ) → Pending t before after i → CertainIn t after i ⊎ RuledOutIn t after i → times i more ≡ 1
-  now_once i p (inl h) = times-once i more goes.timely.ascending (selected_word i) ((goes.timely.selected i).1 (p, h)) (omega arith)
-  now_once i p (inr h) = times-once i more goes.timely.ascending (failed_word i) ((goes.timely.failed i).1 (p, h)) (omega arith)
+  now_once i p (inl h) = times_once i more goes.timely.ascending (selected_word i) ((goes.timely.selected i).1 (p, h)) (omega arith)
+  now_once i p (inr h) = times_once i more goes.timely.ascending (failed_word i) ((goes.timely.failed i).1 (p, h)) (omega arith)
 
   -- One verdict and the other one: reported so far are the positions read that have it.
   module _ (word : ℕ → ℕ) (One Other : Stream → ℕ → Type 0) (stays : (i : ℕ) → One before i → One after i) (apart : (i : ℕ) → Other before i → One after i → ⊥)

@@ -22,7 +22,7 @@ use Rattle.judge.specs.declared.Judged.TheVariants.{Fine, Refused}
 use Rattle.judge.specs.Judging.{judged_number, judged_lines}
 use Rattle.judge.proofs.Passed.{Passed, passed}
 use Rattle.engine.specs.Calls.{After, Ready, lines, memory_of, labels_of, unless, answer_of, event_judged, event_after, event_answer, event_work, event_reports}
-use Rattle.engine.proofs.Numbers.{event-taken}
+use Rattle.engine.proofs.Numbers.{event_taken}
 use Rattle.engine.proofs.Ready.{ready}
 use Rattle.engine.proofs.Taking.{judged_stands}
 use Rattle.demands.specs.Watching.{Call, Stream, Watching, longer, count_of, on_taken, given, called}
@@ -48,7 +48,7 @@ ready_stands n r work s =
 module _ (f : List ℕ) (r : Record) (work reports : List ℕ) (byte : ℕ) where
   -- A call that was taken was not refused.
   pub taken_judged : outcome_number (event_answer f r work reports byte).outcome ≡ 0 → event_judged f r work reports byte ≡ Fine
-  taken_judged h = none_taken judged_number Fine (lines f r work (length reports) (meaning_of byte)) ((event-taken f r work reports byte).0 h)
+  taken_judged h = none_taken judged_number Fine (lines f r work (length reports) (meaning_of byte)) ((event_taken f r work reports byte).0 h)
 
   -- By no line before the last either.
   pub early_judged : event_judged f r work reports byte ≡ Fine → first_of (judged_lines f r work (length reports) (meaning_of byte)) Fine ≡ Fine

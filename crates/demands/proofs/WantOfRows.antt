@@ -21,7 +21,7 @@ use Rattle.answers.specs.Answers.{refusal_rank}
 use Rattle.judge.specs.declared.Judged.TheVariants.{Fine}
 use Rattle.judge.specs.Judging.{judged_rank}
 use Rattle.engine.specs.Calls.{After, rows_lines}
-use Rattle.engine.proofs.Numbers.{event-exactly}
+use Rattle.engine.proofs.Numbers.{event_exactly}
 use Rattle.following.specs.Following.{memory_after, positions_of}
 use Rattle.demands.specs.Watching.{Call, Stream, Watching, longer, Started, lines_of, watching}
 use Rattle.demands.specs.Deciding.{AliveAre}
@@ -42,10 +42,10 @@ module _ (f : List ℕ) (rows depth : ℕ) (s : Watching) (follow : Follows f ro
       go i (no l) = sym (front_applies (first_lines f s c) (rows_lines s.now (after_of f s c)) i (omega (arith, l))) ∙ h i (omega (arith, l))
 
   -- The rows that the event would leave are the positions alive after it.
-  left-alive :
+  left_alive :
       Early f rows depth s follow c → (alive : List ℕ) → AliveAre (table_of f) (longer s.stream (meaning_of c.byte)) alive →
       (after_of f s c).next.alive ≡ length alive
-  left-alive free alive a = go (kind (meaning_of c.byte))
+  left_alive free alive a = go (kind (meaning_of c.byte))
     where
       go : Kind (meaning_of c.byte) → (after_of f s c).next.alive ≡ length alive
       go (Kind.event e means) =
@@ -65,8 +65,8 @@ module _ (f : List ℕ) (rows depth : ℕ) (s : Watching) (follow : Follows f ro
 
   rows_wanted : WantOfRows f s c
   rows_wanted h alive a =
-      let count = left-alive (early_free h) alive a in
-      let exactly = event-exactly f s.now s.work c.lent c.byte 15 (omega arith) in (
+      let count = left_alive (early_free h) alive a in
+      let exactly = event_exactly f s.now s.work c.lent c.byte 15 (omega arith) in (
         λ e. subst (λ n. s.now.rows < n) count (ltb-true _ _ (exactly.0 e).applies),
         λ l. exactly.1 (record { applies = lt-ltb _ _ (subst (λ n. s.now.rows < n) (sym count) l); none_before = λ i l. h i (omega (arith, l)) }),
       )

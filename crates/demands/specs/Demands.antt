@@ -126,7 +126,7 @@ pub record Demand2 (f : List ℕ) (rows depth : ℕ) (s : Watching) : Type 0 whe
   pub room_is : (s.now.rows ≡ rows) × (s.now.allowed ≡ depth)
   -- Every word of memory is that of the rows built from the start, or of the labels of what is open; after the end every
   -- word is 0.
-  pub memory-is :
+  pub memory_is :
       s.stream.ended ≡ false →
       s.work ≡ work_words rows depth (memory_after (table_of f) s.stream.events) (open_after [] s.stream.events)
   pub memory_after_end : s.stream.ended ≡ true → s.work ≡ replicate (work_length rows depth) 0
@@ -146,7 +146,7 @@ pub record Demand3 (f : List ℕ) (s : Watching) (c : Call) : Type 0 where
   pub timely : Timely (table_of f) s.stream (called f s c).stream (given f s c)
   pub nothing_else : (words : List ℕ) → Timely (table_of f) s.stream (called f s c).stream words → words ≡ given f s c
   -- The end reports all that are left.
-  pub end-reports-all :
+  pub end_reports_all :
       (called f s c).stream.ended ≡ true → (i : ℕ) → Read s.stream i → AliveIn (table_of f) s.stream i →
       In (selected_word i) (given f s c) ⊎ In (failed_word i) (given f s c)
 
@@ -154,24 +154,24 @@ pub record Demand3 (f : List ℕ) (s : Watching) (c : Call) : Type 0 where
 pub record StandingDemand3 (f : List ℕ) (s : Watching) : Type 0 where
   -- The rows are exactly the alive positions, ascending, each with the row of its own marked run.
   pub rows_are_alive : AliveAre (table_of f) s.stream (positions_of (memory_of s.now s.work).alive)
-  pub rows-are-theirs :
+  pub rows_are_theirs :
       (h : Held) → In h (memory_of s.now s.work).alive → h ≡ held_after (table_of f) s.stream.events h.position
   -- A decided position is never in a row.
-  pub decided-in-no-row :
+  pub decided_in_no_row :
       (i : ℕ) → CertainIn (table_of f) s.stream i ⊎ RuledOutIn (table_of f) s.stream i →
       ¬ In i (positions_of (memory_of s.now s.work).alive)
   -- A position that was read is alive, or has been reported with the verdict that all completions left have.
-  pub reported-selected :
+  pub reported_selected :
       (i : ℕ) → In (selected_word i) (joined s.reports) ↔ (Read s.stream i × CertainIn (table_of f) s.stream i)
-  pub reported-failed :
+  pub reported_failed :
       (i : ℕ) → In (failed_word i) (joined s.reports) ↔ (Read s.stream i × RuledOutIn (table_of f) s.stream i)
   -- No report is overturned, whatever further calls there are.
-  pub never-overturned :
+  pub never_overturned :
       (i : ℕ) (further : List Call) →
       (In (selected_word i) (joined s.reports) → CertainIn (table_of f) (called_all f s further).stream i)
       × (In (failed_word i) (joined s.reports) → RuledOutIn (table_of f) (called_all f s further).stream i)
   -- The end leaves none undecided.
-  pub end-decides :
+  pub end_decides :
       s.stream.ended ≡ true → (i : ℕ) → Read s.stream i →
       CertainIn (table_of f) s.stream i ⊎ RuledOutIn (table_of f) s.stream i
 

@@ -16,15 +16,15 @@ use Rattle.answers.specs.Record.{no_record}
 use Rattle.answers.specs.Answers.{refused_of, taken_of}
 use Rattle.judge.specs.declared.Judged.{Judged}
 use Rattle.judge.specs.declared.Judged.TheVariants.{Fine, Refused}
-use Rattle.judge.proofs.Passed.{StartPassed, start-passed}
+use Rattle.judge.proofs.Passed.{StartPassed, start_passed}
 use Rattle.engine.specs.Calls.{accs_for, start_judged, start_after, start_answer, start_work}
 
 module _ (f : List ℕ) (rows depth : ℕ) (work : List ℕ) (j : Judged) (judged : j ≡ start_judged f rows depth work) where
   -- A start that is refused: no record, and work memory as it was.
-  pub refused-start :
+  pub refused_start :
       (why : Refusal) → j ≡ Refused why →
       (refused_of no_record why ≡ start_answer f rows depth work) × (work ≡ start_work f rows depth work)
-  refused-start why e =
+  refused_start why e =
       let h : start_judged f rows depth work ≡ Refused why = sym judged ∙ e in
       (sym (rw h), sym (rw h))
 
@@ -41,7 +41,7 @@ module _ (f : List ℕ) (rows depth : ℕ) (work : List ℕ) (j : Judged) (judge
   pub passed_start : j ≡ Fine → StartPassed f rows depth (length work)
   passed_start e =
       let h : start_judged f rows depth work ≡ Fine = sym judged ∙ e in
-      start-passed f rows depth (length work) h
+      start_passed f rows depth (length work) h
 
 -- The match of a step that left out the open.
 abbrev pub NoOpen : Step → Type 0
@@ -54,6 +54,6 @@ no_sets t (step.Point a) other = refl
 no_sets t step.Close other = refl
 
 -- What is asked of an event, of the step that it is.
-pub asked-as :
+pub asked_as :
     {x y : Step} (d p : ℕ) → x ≡ y → Moves (event_of x) d × Counted (event_of x) p → Moves (event_of y) d × Counted (event_of y) p
-asked-as d p e h = subst (λ (z : Step). Moves (event_of z) d × Counted (event_of z) p) e h
+asked_as d p e h = subst (λ (z : Step). Moves (event_of z) d × Counted (event_of z) p) e h

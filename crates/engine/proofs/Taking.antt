@@ -31,7 +31,7 @@ use Rattle.judge.specs.declared.Judged.{Judged}
 use Rattle.judge.specs.declared.Judged.TheVariants.{Fine, Refused}
 use Rattle.judge.specs.Judging.{refuses, judged_lines}
 use Rattle.judge.proofs.Following.{first_append}
-use Rattle.judge.proofs.Passed.{EventPassed, passed, event-passed}
+use Rattle.judge.proofs.Passed.{EventPassed, passed, event_passed}
 use Rattle.engine.proofs.Ready.{ready}
 use Rattle.engine.specs.Calls.{After, Ready, accs_for, taking, rows_lines, unless, answer_of, room_judged, room_answer, room_work, room_reports}
 use Rattle.engine.specs.Calls.{event_after, event_answer, event_work, event_reports}
@@ -145,7 +145,7 @@ can_take f r Is.closes_its p = (p, tt)
 
 module _ (f work : List ℕ) (r : Record) (reports : ℕ) (e m : Event) (is : e ≡ m) (h : first_of (judged_lines f r work reports e) Fine ≡ Fine) where
   pub passed_as : EventPassed (labels_in f) r m
-  passed_as = subst (EventPassed (labels_in f) r) is (event-passed f work r reports e h)
+  passed_as = subst (EventPassed (labels_in f) r) is (event_passed f work r reports e h)
 
   -- What `step` asks.
   pub step_ready : {s : Step} → Is m s → Sound f

@@ -28,11 +28,11 @@ pub fed_none : (f : List ℕ) (s : State) → fed_from f s [] ≡ s
 unfolding fed_from
 fed_none f s = refl
 
-pub fed-byte :
+pub fed_byte :
     (f : List ℕ) (s : State) (byte : ℕ) (bytes : List ℕ) →
     fed_from f s (byte ∷ bytes) ≡ cond (is_going (turned f s byte).fed) (fed_from f (turned f s byte) bytes) (turned f s byte)
 unfolding fed_from
-fed-byte f s byte bytes = refl
+fed_byte f s byte bytes = refl
 
 module _ (f : List ℕ) (s : State) (block : List ℕ) (i : ℕ) where
   -- All bytes are taken.
@@ -44,7 +44,7 @@ module _ (f : List ℕ) (s : State) (block : List ℕ) (i : ℕ) where
   next h b e =
       let byte : ℕ = get_or block i 0 in
       ap (fed_from f s) (drop-cons block i 0 h)
-      ∙ fed-byte f s byte (drop (suc i) block)
+      ∙ fed_byte f s byte (drop (suc i) block)
       ∙ ap (λ (x : Bool). cond x (fed_from f (turned f s byte) (drop (suc i) block)) (turned f s byte)) e
 
   -- The next byte is the last.
@@ -90,10 +90,10 @@ module _ (f : List ℕ) (first : State) (block : List ℕ) (i : ℕ) (s : State)
         (record { going = going_next f s (get_or block i 0) r.going on; rest = sym (fed_goes f s block i h on) ∙ r.rest })
 
 -- Before the first byte.
-pub reached-none :
+pub reached_none :
     (f : List ℕ) (r : Record) (work reports counts block : List ℕ) → Clear f r work (length reports) → (x : Fed) → x ≡ begun r →
     Reached f (state_of x work reports counts) block 0 (state_of x work reports counts)
-reached-none f r work reports counts block c x e =
+reached_none f r work reports counts block c x e =
     record { going = subst (λ (y : Fed). Going f (state_of y work reports counts)) (sym e) (going_first f r work reports counts c); rest = refl }
 
 ---------------------------------------------------------------- blocks that are left at once

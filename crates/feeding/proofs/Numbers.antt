@@ -12,7 +12,7 @@ use borrow.Author.Tests.{eqb-true, ltb-true, lt-ltb}
 use Rattle.meaning.specs.Table.{table_of}
 use Rattle.meaning.specs.Masks.{all}
 use Rattle.meaning.specs.Refusals.{Line, FirstAt, first_of, applies_at, gives_at, numbers, distinct}
-use Rattle.meaning.proofs.Refusals.{given-exactly, taken_exactly}
+use Rattle.meaning.proofs.Refusals.{given_exactly, taken_exactly}
 use Rattle.meaning.proofs.Tests.{all_holds}
 use Rattle.answers.specs.declared.Record.{Record}
 use Rattle.answers.specs.declared.Refusal.TheVariants as why
@@ -47,13 +47,13 @@ old_kept (Refused why) r after old new h = refl
 
 -- Lines that give the ranks 1 to `count`, in order: rank i + 1 is given exactly when line i, counted from 0, applies and
 -- none before it does.
-ranked-exactly :
+ranked_exactly :
     (ls : List (Line Judged)) (count : ℕ) → length ls ≡ count → T (distinct (numbers judged_rank ls Fine)) →
     all count (λ i. eqb (judged_rank (gives_at ls Fine i)) (i + 1)) ≡ true → (x : ℕ) → x ≡ judged_rank (first_of ls Fine) →
     (i : ℕ) → i < count → (x ≡ i + 1) ↔ FirstAt ls i
-ranked-exactly ls count long different in_order x e i l =
+ranked_exactly ls count long different in_order x e i l =
     let rank : judged_rank (gives_at ls Fine i) ≡ i + 1 = eqb-true _ _ (all_holds count (λ i. eqb (judged_rank (gives_at ls Fine i)) (i + 1)) in_order i l) in
-    let exactly = given-exactly judged_rank Fine ls different i (omega (arith, long)) in
+    let exactly = given_exactly judged_rank Fine ls different i (omega (arith, long)) in
     (λ h. exactly.0 (sym e ∙ h ∙ sym rank), λ h. e ∙ exactly.1 h ∙ rank)
 
 module _ (f : List ℕ) (r : Record) (work reports : List ℕ) (byte : ℕ) where
@@ -62,35 +62,35 @@ module _ (f : List ℕ) (r : Record) (work reports : List ℕ) (byte : ℕ) wher
 
   -- An event: a refusal of rank i + 1, from 1 to 16, is answered exactly when line i, counted from 0, applies and none
   -- before it does.
-  pub event-exactly :
+  pub event_exactly :
       (i : ℕ) → i < 16 →
       (outcome_rank (event_answer f r work reports byte).outcome ≡ i + 1) ↔ FirstAt (lines f r work (length reports) (meaning_of byte)) i
-  event-exactly i l =
+  event_exactly i l =
       let ranked = answer_rank (event_judged f r work reports byte) r (event_after f r work byte) in
-      ranked-exactly (lines f r work (length reports) (meaning_of byte)) 16 refl tt refl _ ranked i l
+      ranked_exactly (lines f r work (length reports) (meaning_of byte)) 16 refl tt refl _ ranked i l
 
   -- An event is taken exactly when no line applies.
-  pub event-taken :
+  pub event_taken :
       (outcome_number (event_answer f r work reports byte).outcome ≡ 0)
       ↔ ((i : ℕ) → applies_at (lines f r work (length reports) (meaning_of byte)) i ≡ false)
-  event-taken =
+  event_taken =
       let exactly = taken_exactly judged_number Fine (lines f r work (length reports) (meaning_of byte)) tt in
       (λ h. exactly.0 (sym answered ∙ h), λ h. answered ∙ exactly.1 h)
 
   -- A refused event gives its record back, and leaves work memory and reports as they were.
-  pub refused-keeps :
+  pub refused_keeps :
       0 < outcome_number (event_answer f r work reports byte).outcome →
       ((event_answer f r work reports byte).next ≡ r) × (event_work f r work reports byte ≡ work) × (event_reports f r work reports byte ≡ reports)
-  refused-keeps h =
+  refused_keeps h =
       let j = event_judged f r work reports byte in
       let after = event_after f r work byte in
       (old_next j r after h, old_kept j r after work _ h, old_kept j r after reports _ h)
 
   -- Where no line before applies: 15 is given exactly when more positions would be alive after the event than rows.
-  pub room-exactly :
+  pub room_exactly :
       first_of (judged_lines f r work (length reports) (meaning_of byte)) Fine ≡ Fine →
       (event_judged f r work reports byte ≡ Refused why.Rows) ↔ (r.rows < (taking (table_of f) r work (meaning_of byte)).next.alive)
-  room-exactly h =
+  room_exactly h =
       let whole = judged_passes f r work (length reports) (meaning_of byte) (event_after f r work byte) h in
       (λ g. ltb-true _ _ (full _ (sym whole ∙ g)), λ g. whole ∙ ap (λ (b : Bool). cond b (Refused why.Rows) Fine) (lt-ltb _ _ g))
     where
@@ -105,25 +105,25 @@ module _ (f : List ℕ) (rows depth : ℕ) (work : List ℕ) where
   started = answer_number (start_judged f rows depth work) no_record (start_after f rows depth)
 
   -- A start: the same of ranks 1 to 6.
-  pub start-exactly :
+  pub start_exactly :
       (i : ℕ) → i < 6 →
       (outcome_rank (start_answer f rows depth work).outcome ≡ i + 1) ↔ FirstAt (start_lines f rows depth (length work)) i
-  start-exactly i l =
+  start_exactly i l =
       let ranked = answer_rank (start_judged f rows depth work) no_record (start_after f rows depth) in
-      ranked-exactly (start_lines f rows depth (length work)) 6 refl tt refl _ ranked i l
+      ranked_exactly (start_lines f rows depth (length work)) 6 refl tt refl _ ranked i l
 
-  pub start-taken :
+  pub start_taken :
       (outcome_number (start_answer f rows depth work).outcome ≡ 0)
       ↔ ((i : ℕ) → applies_at (start_lines f rows depth (length work)) i ≡ false)
-  start-taken =
+  start_taken =
       let exactly = taken_exactly judged_number Fine (start_lines f rows depth (length work)) tt in
       (λ h. exactly.0 (sym started ∙ h), λ h. started ∙ exactly.1 h)
 
   -- A refused start gives a record of zeros, and leaves work memory as it was.
-  pub start-refused-keeps :
+  pub start_refused_keeps :
       0 < outcome_number (start_answer f rows depth work).outcome →
       ((start_answer f rows depth work).next ≡ no_record) × (start_work f rows depth work ≡ work)
-  start-refused-keeps h =
+  start_refused_keeps h =
       let j = start_judged f rows depth work in
       let after = start_after f rows depth in
       (old_next j no_record after h, old_kept j no_record after work _ h)

@@ -14,7 +14,7 @@ use Rattle.answers.specs.Answers.{taken_of}
 use Rattle.taking.specs.Calls.{event_answer, event_work, event_reports}
 use Rattle.feeding.specs.declared.Stop.TheVariants.{Room}
 use Rattle.feeding.specs.Feeding.{State, state_of, begun, stopped, fed_by, answer_by, has_room, called, turned, is_going, fed_from}
-use Rattle.feeding.proofs.Blocks.{fed_none, fed-byte}
+use Rattle.feeding.proofs.Blocks.{fed_none, fed_byte}
 
 -- How far it was taken says what the call answered.
 answer_back : (r next : Record) (o : Outcome) → answer_by (fed_by (begun r) next o) ≡ record { next = next; outcome = o }
@@ -22,7 +22,7 @@ answer_back r next (outcome.Taken n) = ap (λ (k : ℕ). taken_of next k) (zero-
 answer_back r next (outcome.Refused why) = refl
 
 last_byte : (f : List ℕ) (s : State) (byte : ℕ) → fed_from f s (byte ∷ []) ≡ turned f s byte
-last_byte f s byte = fed-byte f s byte [] ∙ ap (λ (z : State). cond (is_going (turned f s byte).fed) z (turned f s byte)) (fed_none f (turned f s byte)) ∙ same (is_going (turned f s byte).fed) (turned f s byte)
+last_byte f s byte = fed_byte f s byte [] ∙ ap (λ (z : State). cond (is_going (turned f s byte).fed) z (turned f s byte)) (fed_none f (turned f s byte)) ∙ same (is_going (turned f s byte).fed) (turned f s byte)
   where
     same : (b : Bool) (z : State) → cond b z z ≡ z
     same true z = refl

@@ -8,15 +8,15 @@ use Rattle.answers.specs.Record.{no_record}
 use Rattle.answers.specs.Answers.{refused_of, taken_of}
 use Rattle.judge.specs.declared.Judged.{Judged}
 use Rattle.judge.specs.declared.Judged.TheVariants.{Fine, Refused}
-use Rattle.judge.proofs.Passed.{StartPassed, start-passed}
+use Rattle.judge.proofs.Passed.{StartPassed, start_passed}
 use Rattle.feeding.specs.Starting.{start_judged, start_after, start_answer, start_work}
 
 module _ (f : List ℕ) (rows depth : ℕ) (work : List ℕ) (j : Judged) (judged : j ≡ start_judged f rows depth work) where
   -- A start that is refused: no record, and work memory as it was.
-  pub refused-start :
+  pub refused_start :
       (why : Refusal) → j ≡ Refused why →
       (refused_of no_record why ≡ start_answer f rows depth work) × (work ≡ start_work f rows depth work)
-  refused-start why e =
+  refused_start why e =
       let h : start_judged f rows depth work ≡ Refused why = sym judged ∙ e in
       (sym (rw h), sym (rw h))
 
@@ -33,4 +33,4 @@ module _ (f : List ℕ) (rows depth : ℕ) (work : List ℕ) (j : Judged) (judge
   pub passed_start : j ≡ Fine → StartPassed f rows depth (length work)
   passed_start e =
       let h : start_judged f rows depth work ≡ Fine = sym judged ∙ e in
-      start-passed f rows depth (length work) h
+      start_passed f rows depth (length work) h

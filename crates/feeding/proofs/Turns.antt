@@ -84,10 +84,10 @@ module _ (f : List ℕ) (s : State) (byte : ℕ) where
 ---------------------------------------------------------------- how many reports
 
 -- A call's answer has at most a report more than rows.
-pub taken-few :
+pub taken_few :
     (f : List ℕ) (r : Record) (work reports : List ℕ) (byte : ℕ) → Clear f r work (length reports) →
     (x : Answer) → x ≡ event_answer f r work reports byte → (n : ℕ) → x.outcome ≡ outcome.Taken n → n ≤ r.rows + 1
-taken-few f r work reports byte c x e n h =
+taken_few f r work reports byte c x e n h =
     go (event_judged f r work reports byte) (ap (λ (y : Answer). y.outcome) (sym e) ∙ h)
   where
     count : Outcome → ℕ

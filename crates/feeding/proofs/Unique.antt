@@ -10,18 +10,18 @@ use Rattle.taking.specs.Calls.{event_answer, event_work, event_reports}
 use Rattle.feeding.specs.Starting.{start_answer, start_work}
 
 -- Two event calls over the same table, record, work memory, reports and byte: answers x, work memory w, reports p.
-pub event-unique :
+pub event_unique :
     (f : List ℕ) (r : Record) (work reports : List ℕ) (byte : ℕ) (x x' : Answer) (w w' p p' : List ℕ) →
     x ≡ event_answer f r work reports byte → w ≡ event_work f r work reports byte → p ≡ event_reports f r work reports byte →
     x' ≡ event_answer f r work reports byte → w' ≡ event_work f r work reports byte → p' ≡ event_reports f r work reports byte →
     (x ≡ x') × (w ≡ w') × (p ≡ p')
-event-unique f r work reports byte x x' w w' p p' ex ew ep ex' ew' ep' =
+event_unique f r work reports byte x x' w w' p p' ex ew ep ex' ew' ep' =
     (one_result ex ex', one_result ew ew', one_result ep ep')
 
 -- Two start calls over the same table, numbers and work memory.
-pub start-unique :
+pub start_unique :
     (f : List ℕ) (rows depth : ℕ) (work : List ℕ) (x x' : Answer) (w w' : List ℕ) →
     x ≡ start_answer f rows depth work → w ≡ start_work f rows depth work →
     x' ≡ start_answer f rows depth work → w' ≡ start_work f rows depth work →
     (x ≡ x') × (w ≡ w')
-start-unique f rows depth work x x' w w' ex ew ex' ew' = (one_result ex ex', one_result ew ew')
+start_unique f rows depth work x x' w w' ex ew ex' ew' = (one_result ex ex', one_result ew ew')

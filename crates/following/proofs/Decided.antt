@@ -11,10 +11,10 @@ use Rattle.meaning.specs.Rows.{is_selecting, is_rejecting, row_after}
 use Rattle.meaning.proofs.Earliest.{certain_is, ruled_out_is}
 use Rattle.rows.specs.Steps.{is_decided}
 
-pub undecided-is :
+pub undecided_is :
     (t : Table) → WellFormed t → (i : ℕ) {w : List Event} {d : ℕ} → Prefix t w d → i ≤ positions w →
     (is_decided (row_after t i w) ≡ false) ↔ Alive t i w
-undecided-is t wf i {w} r l = go (is_selecting (row_after t i w)) (is_rejecting (row_after t i w)) (certain_is t wf i r l) (ruled_out_is t wf i r l)
+undecided_is t wf i {w} r l = go (is_selecting (row_after t i w)) (is_rejecting (row_after t i w)) (certain_is t wf i r l) (ruled_out_is t wf i r l)
   where
     go : (s f : Bool) → T s ↔ Certain t i w → T f ↔ RuledOut t i w → (s || f ≡ false) ↔ Alive t i w
     go true f c o = (λ e. absurd (true≢false e), λ a. absurd (a.0 (c.0 tt)))

@@ -19,9 +19,9 @@ pub record Exactly (row : ℕ → Held) (P : ℕ → Type 0) (hs : List Held) : 
 pub exactly_map : (row : ℕ → Held) (is : List ℕ) → Exactly row (λ i. In i is) (map row is)
 exactly_map row is = record { has = λ i m. in_map row m; only = λ h m. out_map row is m }
 
-pub exactly-append :
+pub exactly_append :
     {row : ℕ → Held} {P Q : ℕ → Type 0} (xs ys : List Held) → Exactly row P xs → Exactly row Q ys → Exactly row (λ i. P i ⊎ Q i) (xs ++ ys)
-exactly-append xs ys a b =
+exactly_append xs ys a b =
     record {
       has = λ i. ⊎_elim (λ h. in_left ys (a.has i h)) (λ h. in_right xs (b.has i h));
       only = λ h m.
@@ -83,10 +83,10 @@ module _ {row : ℕ → Held} {P : ℕ → Type 0} {hs : List Held} (all : Exact
   )
 
   -- The words that f gives for them, where it gives word i for the row of i alone, and if Q holds of i.
-  pub exactly-each :
+  pub exactly_each :
       {A : Type 0} (f : Held → List A) (word : ℕ → A) (Q : ℕ → Type 0) →
       ((i j : ℕ) → P j → In (word i) (f (row j)) ↔ ((j ≡ i) × Q j)) → (i : ℕ) → In (word i) (each f hs) ↔ (P i × Q i)
-  exactly-each f word Q gives i = (
+  exactly_each f word Q gives i = (
     λ m.
         let (h, n, p) = out_each f hs m in
         let (j, w, q) = all.only h n in

@@ -20,8 +20,8 @@ use Rattle.reports.specs.Reports.{left_over}
 use Rattle.stepping.proofs.Kept.{left_good}
 use Rattle.following.specs.Lists.{In, Rising}
 use Rattle.following.specs.Following.{numbers, held_after, memory_after, positions_of}
-use Rattle.following.proofs.Lists.{in_numbers, out_numbers, numbers_rise, positions_map, OneAt, each-rise}
-use Rattle.following.proofs.Decided.{undecided-is}
+use Rattle.following.proofs.Lists.{in_numbers, out_numbers, numbers_rise, positions_map, OneAt, each_rise}
+use Rattle.following.proofs.Decided.{undecided_is}
 use Rattle.following.proofs.Exactly.{Exactly, exactly_map, exactly_left, exactly_as, exactly_positions}
 
 left_one : (h : Held) → OneAt (λ (x : Held). x.position) h.position (left_over h)
@@ -35,7 +35,7 @@ module _ (t : Table) (w : List Event) where
   -- Their positions ascend.
   pub held_rise : Rising (positions w) 0 (positions_of (memory_after t w).alive)
   held_rise =
-      each-rise (λ (h : Held). h.position) left_over left_one (map (held_after t w) (numbers (positions w)))
+      each_rise (λ (h : Held). h.position) left_over left_one (map (held_after t w) (numbers (positions w)))
       (subst (Rising (positions w) 0) (sym (positions_map (held_after t w) (λ i. refl) (numbers (positions w)))) (numbers_rise (positions w)))
 
   -- What is held are the rows that are not decided.
@@ -52,8 +52,8 @@ module _ (t : Table) (wf : WellFormed t) {w : List Event} {d : ℕ} (r : Prefix 
   held_alive =
       exactly_as (held_left t w)
       (λ i. (
-        λ h. let (a, b) = out_numbers (positions w) i h.0 in (a, b, (undecided-is t wf i r b).0 h.1),
-        λ h. (in_numbers (positions w) i h.0 h.1, (undecided-is t wf i r h.1).1 h.2),
+        λ h. let (a, b) = out_numbers (positions w) i h.0 in (a, b, (undecided_is t wf i r b).0 h.1),
+        λ h. (in_numbers (positions w) i h.0 h.1, (undecided_is t wf i r h.1).1 h.2),
       ))
 
   -- The positions held are exactly those read that are alive.

@@ -74,11 +74,11 @@ pub rising_from : {high low from : ℕ} {xs : List ℕ} → low ≤ from → Ris
 rising_from l Rising.none = Rising.none
 rising_from l (Rising.over m n r) = Rising.over (lt_of_le_of_lt l m) n r
 
-pub rising-append :
+pub rising_append :
     {high middle low : ℕ} {xs ys : List ℕ} →
     low ≤ middle → middle ≤ high → Rising middle low xs → Rising high middle ys → Rising high low (xs ++ ys)
-rising-append l h Rising.none s = rising_from l s
-rising-append l h (Rising.over m n r) s = Rising.over m (omega arith) (rising-append n h r s)
+rising_append l h Rising.none s = rising_from l s
+rising_append l h (Rising.over m n r) s = Rising.over m (omega arith) (rising_append n h r s)
 
 pub rising_in : {high low x : ℕ} {xs : List ℕ} → Rising high low xs → In x xs → (low < x) × (x ≤ high)
 rising_in (Rising.over l m r) In.first = (l, m)
@@ -87,7 +87,7 @@ rising_in (Rising.over l m r) (In.later h) = let (a, b) = rising_in r h in (omeg
 -- 1 to n rise, and are all from 1 to n.
 pub numbers_rise : (n : ℕ) → Rising n 0 (numbers n)
 numbers_rise zero = Rising.none
-numbers_rise (suc n) = rising-append (omega arith) (omega arith) (numbers_rise n) (Rising.over (omega arith) (omega arith) Rising.none)
+numbers_rise (suc n) = rising_append (omega arith) (omega arith) (numbers_rise n) (Rising.over (omega arith) (omega arith) Rising.none)
 
 pub in_numbers : (n i : ℕ) → 1 ≤ i → i ≤ n → In i (numbers n)
 in_numbers zero i a b = absurd (omega arith)
@@ -109,11 +109,11 @@ pub data OneAt {A : Type 0} (number : A → ℕ) (position : ℕ) : List A → T
   one : {x : A} → number x ≡ position → OneAt number position (x ∷ [])
 
 -- Of rows whose positions rise, the numbers of what is given rise.
-pub each-rise :
+pub each_rise :
     {A : Type 0} (number : A → ℕ) (f : Held → List A) → ((h : Held) → OneAt number h.position (f h)) →
     {high low : ℕ} (hs : List Held) → Rising high low (positions_of hs) → Rising high low (map number (each f hs))
-each-rise number f e [] r = Rising.none
-each-rise {A} number f e {high} {low} (h ∷ hs) (Rising.over l m r) = go (f h) (e h) (each-rise number f e hs r)
+each_rise number f e [] r = Rising.none
+each_rise {A} number f e {high} {low} (h ∷ hs) (Rising.over l m r) = go (f h) (e h) (each_rise number f e hs r)
   where
     go : (xs : List A) → OneAt number h.position xs → Rising high h.position (map number (each f hs)) → Rising high low (map number (xs ++ each f hs))
     go xs OneAt.none rest = rising_from (omega arith) rest
@@ -129,13 +129,13 @@ pub times_none : (i : ℕ) (xs : List ℕ) → ((x : ℕ) → In x xs → ¬ (po
 times_none i [] h = refl
 times_none i (x ∷ xs) h = rw (ne_eqb (position_of x) i (h x In.first)) (omega (arith, times_none i xs (λ y m. h y (In.later m))))
 
-pub times-once :
+pub times_once :
     {high low : ℕ} (i : ℕ) (xs : List ℕ) → Rising high low (map position_of xs) →
     (x : ℕ) → In x xs → position_of x ≡ i → times i xs ≡ 1
-times-once i (x ∷ xs) (Rising.over l m r) _ In.first e =
+times_once i (x ∷ xs) (Rising.over l m r) _ In.first e =
     rw (eq-eqb (position_of x) i e) (omega (arith, times_none i xs (λ y h q. omega (arith, rising_in r (in_map position_of h)))))
-times-once i (y ∷ xs) (Rising.over l m r) x (In.later h) e =
-    rw (ne_eqb (position_of y) i (λ q. omega (arith, rising_in r (in_map position_of h)))) (omega (arith, times-once i xs r x h e))
+times_once i (y ∷ xs) (Rising.over l m r) x (In.later h) e =
+    rw (ne_eqb (position_of y) i (λ q. omega (arith, rising_in r (in_map position_of h)))) (omega (arith, times_once i xs r x h e))
 
 -- Numbers that rise are known by their members.
 pub rising_same : {high low : ℕ} {xs ys : List ℕ} → Rising high low xs → Rising high low ys → ((x : ℕ) → In x xs ↔ In x ys) → xs ≡ ys

@@ -86,15 +86,15 @@ newest_word_lem a o rest =
     ap (λ (ws : List ℕ). get_or ws (length o) 0) (append_assoc (open_words o) (suc a ∷ []) rest)
     ∙ get_or_at (open_words o) (suc a) rest 0 (length o) (open_words_length o)
 
-label-word :
+label_word :
     (k : ℕ) (o rest : List ℕ) → AllBelow k o → (l : ℕ) → l < length o →
     (0 < get_or (open_words o ++ rest) l 0) × (get_or (open_words o ++ rest) l 0 ≤ k)
-label-word k [] rest below.none l h = absurd (omega arith)
-label-word k (a ∷ o) rest (below.more b all) l h =
+label_word k [] rest below.none l h = absurd (omega arith)
+label_word k (a ∷ o) rest (below.more b all) l h =
     elim (ℕ_discrete l (length o)) [
       | yes e ↦ rw (e, newest_word_lem a o rest) (omega arith, omega arith)
       | no e ↦ subst (λ (ws : List ℕ). (0 < get_or ws l 0) × (get_or ws l 0 ≤ k)) (sym (append_assoc (open_words o) (suc a ∷ []) rest))
-          (label-word k o (suc a ∷ rest) all l (omega arith))
+          (label_word k o (suc a ∷ rest) all l (omega arith))
     ]
 
 -- A memory is its rows.
@@ -222,7 +222,7 @@ in_order n rows depth d p k m o small deep fits all rises open-are labelled =
     ap (label_right s (label_level l)) (ap (λ (j : ℕ). get_or (front ++ after) (j + l) 0) (sym long) ∙ get_or-append-add front after l 0)
     ∙ cond_true (leb (label_level l) d)
     (λ e.
-    let x = label-word k o (replicate (depth - length (open_words o)) 0) labelled l (omega (arith, leb-true (label_level l) d e)) in
+    let x = label_word k o (replicate (depth - length (open_words o)) 0) labelled l (omega (arith, leb-true (label_level l) d e)) in
     both (lt-ltb _ _ x.0) (le-leb _ _ x.1))
     (λ e. eq-eqb _ 0 (past_words (open_words o) (depth - length (open_words o)) l (omega (arith, leb-false (label_level l) d e, open_words_length o)))))
 

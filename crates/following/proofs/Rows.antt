@@ -88,19 +88,19 @@ new_rise v Close = Rising.none
 
 module _ (t : Table) (v : List Event) where
   -- The new row is that of the position that comes with the event.
-  pub born-are :
+  pub born_are :
       (e : Event) →
       map (held_after t (v ++ (e ∷ []))) (new_positions e (positions v)) ≡ born t e (positions v) (step_row t (accs_of t) e (row_after t 0 v))
-  born-are (Open a) = rw (new_row t v (Open a))
-  born-are (Point a) = rw (new_row t v (Point a))
-  born-are Close = refl
+  born_are (Open a) = rw (new_row t v (Open a))
+  born_are (Point a) = rw (new_row t v (Point a))
+  born_are Close = refl
 
   -- The rows of all positions, one event further: each by the event's rule, and the new row.
-  pub all-rows :
+  pub all_rows :
       (e : Event) →
       map (held_after t (v ++ (e ∷ []))) (numbers (positions (v ++ (e ∷ []))))
       ≡ map (on_row (step_row t (accs_of t) e)) (map (held_after t v) (numbers (positions v))) ++ born t e (positions v) (step_row t (accs_of t) e (row_after t 0 v))
-  all-rows e =
+  all_rows e =
       let after : ℕ → Held = held_after t (v ++ (e ∷ [])) in
       let next : Held → Held = on_row (step_row t (accs_of t) e) in
       let old = numbers (positions v) in
@@ -108,4 +108,4 @@ module _ (t : Table) (v : List Event) where
       λ i m. ap (λ r. record { position = i; row = r }) (old_row t v e i (out_numbers (positions v) i m).1) in
       ap (map after) (numbers_after v e)
       ∙ map-append after old (new_positions e (positions v))
-      ∙ ap₂ (λ xs ys. xs ++ ys) (map_as after (λ i. next (held_after t v i)) old same ∙ sym (map-map next (held_after t v) old)) (born-are e)
+      ∙ ap₂ (λ xs ys. xs ++ ys) (map_as after (λ i. next (held_after t v i)) old same ∙ sym (map-map next (held_after t v) old)) (born_are e)

@@ -18,7 +18,7 @@ use Rattle.judge.specs.declared.Judged.TheVariants.{Fine, Refused}
 use Rattle.judge.specs.Judging.{judged_number, call_lines, event_lines, judged_lines, newest_word}
 use Rattle.judge.proofs.Following.{first_append, call_passes}
 use Rattle.judge.proofs.Passed.{Passed, call_passed}
-use Rattle.table.proofs.Sound.{taken-is-sound}
+use Rattle.table.proofs.Sound.{taken_is_sound}
 use Rattle.judge.specs.Clear.{Clear, clear_lines}
 
 -- A refusal is one.
@@ -50,23 +50,23 @@ module _ (f : List ℕ) (r : Record) (work : List ℕ) (reports : ℕ) where
       let e : not (bodies_right f) ≡ false = n 4 in
       record { read = rw (a, b, c, d, e); call = rw (a, b, c, d, e) at h }
 
-pub clear-judged :
+pub clear_judged :
     (f : List ℕ) (r : Record) (work : List ℕ) (reports : ℕ) → Clear f r work reports → (e : Event) →
     first_of (event_lines (labels_in f) r (newest_word r work) e) Fine ≡ first_of (judged_lines f r work reports e) Fine
-clear-judged f r work reports c e =
+clear_judged f r work reports c e =
     call_passes f r work reports e (states_in f) (labels_in f) c.read Fine (first_of (event_lines (labels_in f) r (newest_word r work) e) Fine) (sym c.call) refl refl
 
 pub clear_passed : (f : List ℕ) (r : Record) (work : List ℕ) (reports : ℕ) → Clear f r work reports → Passed f r work reports
 clear_passed f r work reports c =
     record {
-      sound = (taken-is-sound f (states_in f) (labels_in f) c.read).0;
+      sound = (taken_is_sound f (states_in f) (labels_in f) c.read).0;
       called = call_passed (states_in f) (labels_in f) r work reports c.call;
     }
 
 -- An event that no line before the last refuses is clear.
-pub judged-clear :
+pub judged_clear :
     (f : List ℕ) (r : Record) (work : List ℕ) (reports : ℕ) (e : Event) → first_of (judged_lines f r work reports e) Fine ≡ Fine → Clear f r work reports
-judged-clear f r work reports e h = lent_clear f r work reports (go (first_of (clear_lines f r work reports) Fine) refl)
+judged_clear f r work reports e h = lent_clear f r work reports (go (first_of (clear_lines f r work reports) Fine) refl)
   where
     go : (j : Judged) → first_of (clear_lines f r work reports) Fine ≡ j → j ≡ Fine
     go Fine k = refl

@@ -12,7 +12,7 @@ use Rattle.table.specs.declared.Reading.{Reading}
 use Rattle.table.specs.declared.Reading.TheVariants as reading
 use Rattle.table.specs.declared.Refusal.{Refusal}
 use Rattle.table.specs.declared.Refusal.TheVariants as file
-use Rattle.table.proofs.Sound.{taken-is-sound}
+use Rattle.table.proofs.Sound.{taken_is_sound}
 use Rattle.answers.specs.declared.Record.{Record}
 use Rattle.answers.specs.declared.Event.{Event}
 use Rattle.answers.specs.declared.Refusal as answers
@@ -63,10 +63,10 @@ table_first f o = go (is_short f) (header_right f) (contents_right f) (length_ri
     go false true true true true contents bodies = refl
 
 -- The call's lines before others.
-call-first :
+call_first :
     (n k : ℕ) (r : Record) (work : List ℕ) (reports : ℕ) (o : Judged) →
     first_of (call_lines n k r work reports) o ≡ after (first_of (call_lines n k r work reports) judged.Fine) o
-call-first n k r work reports o =
+call_first n k r work reports o =
     let place = fault_of r n k work in
     go (not (sizes_right r.rows r.allowed (length work)) || ltb reports (r.rows + 1)) (is_fault place) r.finished (fault_at place)
   where
@@ -80,58 +80,58 @@ call-first n k r work reports o =
     go false false false at = refl
 
 -- A file that is refused is the first reason.
-pub table-stands :
+pub table_stands :
     (f : List ℕ) (rest : List (Line Judged)) (reason : Refusal) → reading_of f ≡ reading.Refused reason →
     judged.Refused (why.Table reason) ≡ first_of (table_lines f ++ rest) judged.Fine
-table-stands f rest reason e =
+table_stands f rest reason e =
     let o : Judged = first_of rest judged.Fine in
     sym (first_append (table_lines f) rest judged.Fine ∙ table_first f o ∙ ap (λ (x : Reading). after_reading x o) e)
 
 -- A file that is taken leaves the rest to be judged.
-pub table-passes :
+pub table_passes :
     (f : List ℕ) (rest : List (Line Judged)) (n k : ℕ) → reading_of f ≡ reading.Taken n k →
     first_of (table_lines f ++ rest) judged.Fine ≡ first_of rest judged.Fine
-table-passes f rest n k e =
+table_passes f rest n k e =
     let o : Judged = first_of rest judged.Fine in
     first_append (table_lines f) rest judged.Fine ∙ table_first f o ∙ ap (λ (x : Reading). after_reading x o) e
 
 module _ (f : List ℕ) (r : Record) (work : List ℕ) (reports : ℕ) (event : Event) (n k : ℕ) (read : reading_of f ≡ reading.Taken n k) where
   -- The call's judgement, then the event's.
-  both-judged :
+  both_judged :
       (call next : Judged) → call ≡ first_of (call_lines n k r work reports) judged.Fine → next ≡ first_of (event_lines k r (newest_word r work) event) judged.Fine →
       first_of (judged_lines f r work reports event) judged.Fine ≡ after call next
-  both-judged call next h g =
-      let s = taken-is-sound f n k read in
+  both_judged call next h g =
+      let s = taken_is_sound f n k read in
       let x : ℕ = newest_word r work in
       let hn : call ≡ first_of (call_lines (states_in f) (labels_in f) r work reports) judged.Fine =
       h ∙ ap₂ (λ (y z : ℕ). first_of (call_lines y z r work reports) judged.Fine) s.1 s.2 in
       let gk : next ≡ first_of (event_lines (labels_in f) r x event) judged.Fine = g ∙ ap (λ (y : ℕ). first_of (event_lines y r x event) judged.Fine) s.2 in
-      table-passes f (call_lines (states_in f) (labels_in f) r work reports ++ event_lines (labels_in f) r x event) n k read
+      table_passes f (call_lines (states_in f) (labels_in f) r work reports ++ event_lines (labels_in f) r x event) n k read
       ∙ first_append (call_lines (states_in f) (labels_in f) r work reports) (event_lines (labels_in f) r x event) judged.Fine
-      ∙ call-first (states_in f) (labels_in f) r work reports (first_of (event_lines (labels_in f) r x event) judged.Fine)
+      ∙ call_first (states_in f) (labels_in f) r work reports (first_of (event_lines (labels_in f) r x event) judged.Fine)
       ∙ sym (rw (hn, gk))
 
   -- A call that is refused.
-  pub call-stands :
+  pub call_stands :
       (call : Judged) (reason : answers.Refusal) → call ≡ first_of (call_lines n k r work reports) judged.Fine → call ≡ judged.Refused reason →
       call ≡ first_of (judged_lines f r work reports event) judged.Fine
-  call-stands call reason h e =
+  call_stands call reason h e =
       let next : Judged = first_of (event_lines k r (newest_word r work) event) judged.Fine in
-      e ∙ sym (both-judged call next h refl ∙ ap (λ (x : Judged). after x next) e)
+      e ∙ sym (both_judged call next h refl ∙ ap (λ (x : Judged). after x next) e)
 
   -- A call that is not, and its event.
   pub call_passes :
       (call next : Judged) → call ≡ first_of (call_lines n k r work reports) judged.Fine → call ≡ judged.Fine →
       next ≡ first_of (event_lines k r (newest_word r work) event) judged.Fine → next ≡ first_of (judged_lines f r work reports event) judged.Fine
-  call_passes call next h e g = sym (both-judged call next h g ∙ ap (λ (x : Judged). after x next) e)
+  call_passes call next h e g = sym (both_judged call next h g ∙ ap (λ (x : Judged). after x next) e)
 
 -- The one line of a start after the table's.
-pub start-judged :
+pub start_judged_lem :
     (f : List ℕ) (rows allowed size n k : ℕ) → reading_of f ≡ reading.Taken n k → (b : Bool) → sizes_right rows allowed size ≡ b →
     cond b judged.Fine (judged.Refused why.Sizes) ≡ first_of (start_lines f rows allowed size) judged.Fine
-start-judged f rows allowed size n k e b h =
+start_judged_lem f rows allowed size n k e b h =
     go b ∙ ap (λ (x : Bool). cond (not x) (judged.Refused why.Sizes) judged.Fine) (sym h)
-    ∙ sym (table-passes f (refuses (not (sizes_right rows allowed size)) why.Sizes ∷ []) n k e)
+    ∙ sym (table_passes f (refuses (not (sizes_right rows allowed size)) why.Sizes ∷ []) n k e)
   where
     go : (b : Bool) → cond b judged.Fine (judged.Refused why.Sizes) ≡ cond (not b) (judged.Refused why.Sizes) judged.Fine
     go true = refl

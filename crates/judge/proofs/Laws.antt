@@ -81,7 +81,7 @@ pub used_some : (b : Bool) (used alive : ℕ) → b ≡ false → used ≡ alive
 used_some b used alive e h = rw e h
 
 -- Where the record by itself is in order, the words decide.
-pub fault-words :
+pub fault_words :
     (r : Record) (n k : ℕ) (work : List ℕ) (used : ℕ) (p : Place) → record_right r ≡ true → used ≡ cond r.finished 0 (r.alive + 1) →
     p
     ≡ first_fault
@@ -96,7 +96,7 @@ pub fault-words :
     }
     work →
     p ≡ fault_of r n k work
-fault-words r n k work used p e u h = rw e (rw u at h)
+fault_words r n k work used p e u h = rw e (rw u at h)
 
 module _ (n k : ℕ) (r : Record) (work : List ℕ) (reports : ℕ) where
   abbrev call : Judged

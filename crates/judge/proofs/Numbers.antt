@@ -12,11 +12,11 @@ use Rattle.judge.specs.Judging.{judged_number, call_lines, judged_lines, start_l
 use Rattle.judge.specs.declared.Judged.TheVariants.{Fine}
 
 -- An event, of all lines but the last.
-pub judged-none :
+pub judged_none :
     (f : List ℕ) (r : Record) (work : List ℕ) (reports : ℕ) (e : Event) →
     (judged_number (first_of (judged_lines f r work reports e) Fine) ≡ 0)
     ↔ ((i : ℕ) → applies_at (judged_lines f r work reports e) i ≡ false)
-judged-none f r work reports e = taken_exactly judged_number Fine (judged_lines f r work reports e) tt
+judged_none f r work reports e = taken_exactly judged_number Fine (judged_lines f r work reports e) tt
 
 -- The call's lines alone: the same.
 pub call_none :

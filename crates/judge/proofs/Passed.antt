@@ -11,7 +11,7 @@ use Rattle.meaning.specs.Refusals.{first_of, applies_at}
 use Rattle.bodies.specs.Sound.{Sound, states_in, labels_in}
 use Rattle.table.specs.File.{is_short, header_right, contents_right, length_right, bodies_right, reading_of}
 use Rattle.table.specs.declared.Reading.TheVariants.{Taken}
-use Rattle.table.proofs.Sound.{taken-is-sound}
+use Rattle.table.proofs.Sound.{taken_is_sound}
 use Rattle.places.specs.Places.{work_length}
 use Rattle.order.specs.declared.Place.{Place}
 use Rattle.order.specs.declared.Place.TheVariants.{Fine, At}
@@ -22,7 +22,7 @@ use Rattle.answers.specs.declared.Event.TheVariants.{Open, Point, Close, CloseOf
 use Rattle.judge.specs.Judging.{judged_number, call_lines, judged_lines, start_lines, sizes_right, record_right, shape_of, fault_of, is_fault}
 use Rattle.judge.specs.declared.Judged.TheVariants as judged
 use Rattle.judge.proofs.Laws.{sized, within}
-use Rattle.judge.proofs.Numbers.{judged-none, call_none, start_none}
+use Rattle.judge.proofs.Numbers.{judged_none, call_none, start_none}
 
 -- What a call that passed 6 to 8 has, for a table with n states and k labels.
 pub record Called (n k : ℕ) (r : Record) (work : List ℕ) (reports : ℕ) : Type 0 where
@@ -58,12 +58,12 @@ pub record StartPassed (f : List ℕ) (rows allowed size : ℕ) : Type 0 where
   pub size_is : size ≡ work_length rows allowed
 
 -- A file to which none of the table's lines applies.
-sound-file :
+sound_file :
     (f : List ℕ) → is_short f ≡ false → not (header_right f) ≡ false → not (contents_right f) ≡ false → not (length_right f) ≡ false →
     not (bodies_right f) ≡ false → Sound f
-sound-file f a b c d e =
+sound_file f a b c d e =
     let taken : reading_of f ≡ Taken (states_in f) (labels_in f) = rw (a, b, c, d, e) in
-    (taken-is-sound f (states_in f) (labels_in f) taken).0
+    (taken_is_sound f (states_in f) (labels_in f) taken).0
 
 pub neither : (a b : Bool) → (a || b) ≡ false → (a ≡ false) × (b ≡ false)
 neither true b e = absurd (true≢false e)
@@ -80,10 +80,10 @@ both_right false p at e = absurd (true≢false (ap is_fault e))
 
 module _ (n k : ℕ) (r : Record) (work : List ℕ) (reports : ℕ) where
   -- None of 6 to 8 applies.
-  none-called :
+  none_called :
       not (sizes_right r.rows r.allowed (length work)) || ltb reports (r.rows + 1) ≡ false → is_fault (fault_of r n k work) ≡ false →
       r.finished ≡ false → Called n k r work reports
-  none-called sizes order going =
+  none_called sizes order going =
       let both = neither (not (sizes_right r.rows r.allowed (length work))) (ltb reports (r.rows + 1)) sizes in
       let s = sized r.rows r.allowed (length work) (not-false (sizes_right r.rows r.allowed (length work)) both.0) in
       let enough : r.rows + 1 ≤ reports = ltb-false reports (r.rows + 1) both.1 in
@@ -104,49 +104,49 @@ module _ (n k : ℕ) (r : Record) (work : List ℕ) (reports : ℕ) where
   pub call_passed : first_of (call_lines n k r work reports) judged.Fine ≡ judged.Fine → Called n k r work reports
   call_passed h =
       let none = (call_none n k r work reports).0 (ap judged_number h) in
-      none-called (none 0) (none 1) (none 2)
+      none_called (none 0) (none 1) (none 2)
 
 module _ (f work : List ℕ) (r : Record) (reports : ℕ) (e : Event) where
   -- No line applies.
   none : first_of (judged_lines f r work reports e) judged.Fine ≡ judged.Fine → (i : ℕ) → applies_at (judged_lines f r work reports e) i ≡ false
-  none h = (judged-none f r work reports e).0 (ap judged_number h)
+  none h = (judged_none f r work reports e).0 (ap judged_number h)
 
   pub passed : first_of (judged_lines f r work reports e) judged.Fine ≡ judged.Fine → Passed f r work reports
   passed h =
       let n = none h in
       record {
-        sound = sound-file f (n 0) (n 1) (n 2) (n 3) (n 4);
-        called = none-called (states_in f) (labels_in f) r work reports (n 5) (n 6) (n 7);
+        sound = sound_file f (n 0) (n 1) (n 2) (n 3) (n 4);
+        called = none_called (states_in f) (labels_in f) r work reports (n 5) (n 6) (n 7);
       }
 
-pub event-passed :
+pub event_passed :
     (f work : List ℕ) (r : Record) (reports : ℕ) (e : Event) → first_of (judged_lines f r work reports e) judged.Fine ≡ judged.Fine →
     EventPassed (labels_in f) r e
-event-passed f work r reports (Open a) h =
+event_passed f work r reports (Open a) h =
     let n = none f work r reports (Open a) h in
     (leb-false (labels_in f) a (n 9), leb-false r.allowed r.depth (n 12), leb-false 2147483647 r.positions (n 14))
-event-passed f work r reports (Point a) h =
+event_passed f work r reports (Point a) h =
     let n = none f work r reports (Point a) h in
     (leb-false (labels_in f) a (n 9), leb-false 2147483647 r.positions (n 14))
-event-passed f work r reports Close h =
+event_passed f work r reports Close h =
     let open-some : r.depth ≡ 0 → ⊥ = eqb-false r.depth 0 (none f work r reports Close h 10) in
     omega (arith, open-some)
-event-passed f work r reports (CloseOf a) h =
+event_passed f work r reports (CloseOf a) h =
     let open-some : r.depth ≡ 0 → ⊥ = eqb-false r.depth 0 (none f work r reports (CloseOf a) h 10) in
     omega (arith, open-some)
-event-passed f work r reports End h =
+event_passed f work r reports End h =
     let closed : r.depth ≤ 0 = ltb-false 0 r.depth (none f work r reports End h 13) in
     omega (arith, closed)
-event-passed f work r reports Unknown h = absurd (true≢false (none f work r reports Unknown h 8))
+event_passed f work r reports Unknown h = absurd (true≢false (none f work r reports Unknown h 8))
 
-pub start-passed :
+pub start_passed :
     (f : List ℕ) (rows allowed size : ℕ) → first_of (start_lines f rows allowed size) judged.Fine ≡ judged.Fine →
     StartPassed f rows allowed size
-start-passed f rows allowed size h =
+start_passed f rows allowed size h =
     let n = (start_none f rows allowed size).0 (ap judged_number h) in
     let s = sized rows allowed size (not-false (sizes_right rows allowed size) (n 5)) in
     record {
-      sound = sound-file f (n 0) (n 1) (n 2) (n 3) (n 4);
+      sound = sound_file f (n 0) (n 1) (n 2) (n 3) (n 4);
       few_rows = s.few_rows;
       few_levels = s.few_levels;
       size_is = s.long;

@@ -30,11 +30,11 @@ use Rattle.answers.specs.Bytes.{meaning_of}
 use Rattle.judge.specs.declared.Judged.TheVariants.{Fine, Refused}
 use Rattle.judge.specs.Judging.{judged_lines, sizes_right, record_right, fault_of}
 use Rattle.judge.proofs.Laws.{finished_stands}
-use Rattle.judge.proofs.Passed.{EventPassed, event-passed}
+use Rattle.judge.proofs.Passed.{EventPassed, event_passed}
 use Rattle.taking.specs.Calls.{After, memory_of, stepped, taking, event_judged, event_after}
 use Rattle.taking.proofs.Taking.{ends_length, judged_passes, early_judged}
 use Rattle.judge.specs.Clear.{Clear}
-use Rattle.judge.proofs.Cleared.{not_fine, clear_passed, judged-clear}
+use Rattle.judge.proofs.Cleared.{not_fine, clear_passed, judged_clear}
 use Rattle.following.proofs.Ordered.{zeros_in_order}
 use Rattle.keeping.specs.InOrder.{InOrder}
 use Rattle.keeping.proofs.Kept.{sizes, step_kept}
@@ -86,11 +86,11 @@ module _ (f : List ℕ) (r : Record) (work : List ℕ) where
 
   module _ (reports : ℕ) (c : Clear f r work reports) where
     -- An open, point or close leaves the watch going.
-    step-order :
+    step_order :
         (e : stream.Event) → (stepped (table_of f) r work e).next.rows ≡ r.rows → (stepped (table_of f) r work e).next.finished ≡ r.finished →
         Can (table_of f) (row_length r.allowed) r.depth e × Counted e r.positions → (stepped (table_of f) r work e).next.alive ≤ r.rows →
         InOrder f (stepped (table_of f) r work e).next (stepped (table_of f) r work e).work
-    step-order e rows finished can room =
+    step_order e rows finished can room =
         record {
           read = c.read;
           call = λ lent enough. (step_kept f r work reports c e can room lent (omega (arith, rows, enough))).call
@@ -113,15 +113,15 @@ module _ (f : List ℕ) (r : Record) (work : List ℕ) where
               (ap (sizes_right r.rows r.allowed) long ∙ sizes f r work reports c) (omega (arith, enough)) fine refl);
         }
 
-    taking-order :
+    taking_order :
         (e : Event) → EventPassed (labels_in f) r e → (taking (table_of f) r work e).next.alive ≤ r.rows →
         InOrder f (taking (table_of f) r work e).next (taking (table_of f) r work e).work
-    taking-order (Open a) p room = step-order (stream.Open a) refl refl ((p.0, omega (arith, p.1)), p.2) room
-    taking-order (Point a) p room = step-order (stream.Point a) refl refl (p.0, p.1) room
-    taking-order Close p room = step-order stream.Close refl refl (p, tt) room
-    taking-order (CloseOf a) p room = step-order stream.Close refl refl (p, tt) room
-    taking-order End p room = end_order
-    taking-order Unknown p room = absurd p
+    taking_order (Open a) p room = step_order (stream.Open a) refl refl ((p.0, omega (arith, p.1)), p.2) room
+    taking_order (Point a) p room = step_order (stream.Point a) refl refl (p.0, p.1) room
+    taking_order Close p room = step_order stream.Close refl refl (p, tt) room
+    taking_order (CloseOf a) p room = step_order stream.Close refl refl (p, tt) room
+    taking_order End p room = end_order
+    taking_order Unknown p room = absurd p
 
 -- A record and memory in order, and a watch that has not finished: none of 1 to 8 applies.
 order_clear : {f : List ℕ} {r : Record} {work : List ℕ} → InOrder f r work → r.finished ≡ false → (lent : ℕ) → r.rows < lent → Clear f r work lent
@@ -146,8 +146,8 @@ module _ (f : List ℕ) (r : Record) (work reports : List ℕ) (byte : ℕ) wher
     -- A taken event leaves record and memory in order, whoever made those that it was given.
     pub event_order : InOrder f (event_after f r work byte).next (event_after f r work byte).work
     event_order =
-        taking-order f r work (length reports) (judged-clear f r work (length reports) (meaning_of byte) early) (meaning_of byte)
-        (event-passed f work r (length reports) (meaning_of byte) early) room
+        taking_order f r work (length reports) (judged_clear f r work (length reports) (meaning_of byte) early) (meaning_of byte)
+        (event_passed f work r (length reports) (meaning_of byte) early) room
 
     -- Unless it was the end, none of 1 to 8 applies to the next call.
     pub event_kept : (event_after f r work byte).next.finished ≡ false → (lent : ℕ) → r.rows < lent

@@ -27,7 +27,7 @@ use Rattle.taking.specs.Calls.{memory_of, labels_of}
 use Rattle.taking.proofs.Ready.{position_at_lem, shape, fine, part, part_long, right, most}
 use Rattle.following.specs.Lists.{Rising}
 use Rattle.following.specs.Following.{positions_of}
-use Rattle.following.proofs.Lists.{rising-append}
+use Rattle.following.proofs.Lists.{rising_append}
 
 -- A higher bound.
 pub rising_to : {high higher low : ℕ} {xs : List ℕ} → high ≤ higher → Rising high low xs → Rising higher low xs
@@ -35,18 +35,18 @@ rising_to h Rising.none = Rising.none
 rising_to h (Rising.over l m r) = Rising.over l (omega arith) (rising_to h r)
 
 -- Rows each of which has a position above that of the row before it.
-helds-rise :
+helds_rise :
     (w d : ℕ) (words : List ℕ) → 0 < w → (count : ℕ) → ((i : ℕ) → i < count → get_or words (i * w) 0 < get_or words (suc i * w) 0) →
     get_or words (0 * w) 0 ≡ 0 → Rising (get_or words (count * w) 0) 0 (positions_of (helds_in w d count (drop w words)))
-helds-rise w d words p zero up first = Rising.none
-helds-rise w d words p (suc count) up first =
+helds_rise w d words p zero up first = Rising.none
+helds_rise w d words p (suc count) up first =
     let above = up count (omega arith) in
     let at = position_at_lem w count words p in
     let hs : List Held = helds_in w d count (drop w words) in
     let x : ℕ = get_or words (suc count * w) 0 in
     subst (Rising x 0) (sym (map-append (λ (h : Held). h.position) hs (held_in d (row_of w count (drop w words)) ∷ [])))
-    (rising-append {high = x} {middle = get_or words (count * w) 0} (omega arith) (omega (arith, above))
-    (helds-rise w d words p count (λ i l. up i (omega arith)) first)
+    (rising_append {high = x} {middle = get_or words (count * w) 0} (omega arith) (omega (arith, above))
+    (helds_rise w d words p count (λ i l. up i (omega arith)) first)
     (subst (λ (y : ℕ). Rising x (get_or words (count * w) 0) (y ∷ [])) (sym at) (Rising.over above (omega arith) Rising.none)))
 
 -- Words each of which is 1 above a label below k.
@@ -101,7 +101,7 @@ module _ (n k : ℕ) (r : Record) (work : List ℕ) (reports : ℕ) (c : Called 
       go zero e = Rising.none
       go (suc alive) e =
           rising_to (positions_in_lem by words cells c.few_levels c.deep fits long (suc alive) (omega (arith, e)) (omega arith))
-          (helds-rise (row_length r.allowed) r.depth words (omega arith) (suc alive) (λ i h. above i (omega (arith, e))) first)
+          (helds_rise (row_length r.allowed) r.depth words (omega arith) (suc alive) (λ i h. above i (omega (arith, e))) first)
 
   pub labels_are : AllBelow k (labels_of r work)
   labels_are =

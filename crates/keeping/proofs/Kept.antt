@@ -1,4 +1,4 @@
--- A call to which none of the lines 1 to 8 applies is judged by its event alone (`clear-judged`), and where it is taken and is
+-- A call to which none of the lines 1 to 8 applies is judged by its event alone (`clear_judged`), and where it is taken and is
 -- not the end, none of them applies to the next call either (`kept`). Assumes nothing.
 use mathlib.Core.Path.{◌≡◌, refl, sym, ap, subst, ◌∙◌}
 use mathlib.Core.Bool.{Bool, true, false, not, cond, ◌||◌}
@@ -16,7 +16,7 @@ use Rattle.meaning.specs.Streams.{opened_by}
 use Rattle.meaning.proofs.Rows.{AllBelow}
 use Rattle.bodies.specs.Sound.{Sound, states_in, labels_in}
 use Rattle.table.specs.declared.Reading.TheVariants.{Taken}
-use Rattle.table.proofs.Sound.{taken-is-sound}
+use Rattle.table.proofs.Sound.{taken_is_sound}
 use Rattle.places.specs.Places.{row_length, work_length, labels_part}
 use Rattle.places.specs.Memory.{Memory, rows_of, work_words}
 use Rattle.places.proofs.Good.{AllGood}
@@ -42,7 +42,7 @@ use Rattle.following.proofs.Ordered.{work_length_lem, in_order}
 use Rattle.judge.specs.Clear.{Clear}
 use Rattle.judge.proofs.Cleared.{clear_passed}
 use Rattle.keeping.proofs.InOrder.{positions_rise, labels_are}
-use Rattle.keeping.proofs.Steps.{positions_by, step-rise, step_good, step_levels, step_labels}
+use Rattle.keeping.proofs.Steps.{positions_by, step_rise, step_good, step_levels, step_labels}
 
 module _ (f : List ℕ) (r : Record) (work : List ℕ) (reports : ℕ) (c : Clear f r work reports) where
   passed : Passed f r work reports
@@ -111,7 +111,7 @@ module _ (f : List ℕ) (r : Record) (work : List ℕ) (reports : ℕ) (c : Clea
       good e can = step_good (table_of f) r.positions formed (accs_of (table_of f)) e (row_length r.allowed) r.depth can (memory_of r work) (state_good _ _ _ _ _ _ (ready f work r reports passed).rows)
 
       rise : (e : stream.Event) → Rising (positions_by e r.positions) 0 (positions_of (m e).alive)
-      rise e = step-rise (table_of f) r.positions (accs_of (table_of f)) e (memory_of r work) (positions_rise _ _ r work reports called)
+      rise e = step_rise (table_of f) r.positions (accs_of (table_of f)) e (memory_of r work) (positions_rise _ _ r work reports called)
 
       levels : (e : stream.Event) → Can (table_of f) (row_length r.allowed) r.depth e → length (opened_by (labels_of r work) e) ≡ depth_after e r.depth
       levels e can =

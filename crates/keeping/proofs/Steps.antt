@@ -21,7 +21,7 @@ use Rattle.stepping.specs.Stepping.{born, step_memory, left_memory}
 use Rattle.stepping.proofs.Kept.{all_step, new_good, left_good}
 use Rattle.following.specs.Lists.{Rising}
 use Rattle.following.specs.Following.{positions_of}
-use Rattle.following.proofs.Lists.{rising-append, each-rise}
+use Rattle.following.proofs.Lists.{rising_append, each_rise}
 use Rattle.following.proofs.Held.{left_one}
 
 -- The positions read once the event is taken, where p were.
@@ -45,16 +45,16 @@ module _ (t : Table) (p : ℕ) where
   no_fewer (Point a) = omega arith
   no_fewer Close = omega arith
 
-  pub step-rise :
+  pub step_rise :
       (accs : List ℕ) (e : Event) (m : Memory) → Rising p 0 (positions_of m.alive) →
       Rising (positions_by e p) 0 (positions_of (left_memory (step_memory t accs e p m)).alive)
-  step-rise accs e m rises =
+  step_rise accs e m rises =
       let old : List Held = map (on_row (step_row t accs e)) m.alive in
       let new : List Held = born t e p (step_row t accs e m.run) in
       let same : positions_of (old ++ new) ≡ positions_of m.alive ++ positions_of new =
       map-append (λ (h : Held). h.position) old new ∙ ap (λ (ps : List ℕ). ps ++ positions_of new) (positions_on (step_row t accs e) m.alive) in
-      each-rise (λ (h : Held). h.position) left_over left_one (old ++ new)
-      (subst (Rising (positions_by e p) 0) (sym same) (rising-append (omega arith) (no_fewer e) rises (born_rise e (step_row t accs e m.run))))
+      each_rise (λ (h : Held). h.position) left_over left_one (old ++ new)
+      (subst (Rising (positions_by e p) 0) (sym same) (rising_append (omega arith) (no_fewer e) rises (born_rise e (step_row t accs e m.run))))
 
   module _ (wf : WellFormed t) where
     born_good : (e : Event) (d : ℕ) (run : Row) → Good t.states d (record { position = 0; row = run }) → AllGood t.states d (born t e p run)

@@ -40,11 +40,11 @@ module _ (f : List ℕ) (rows depth : ℕ) (work words answer : List ℕ) where
   pub start_misfit : fitting words answer ≡ false → Starts 100 work words answer
   start_misfit h = (sym (rw h), (sym (rw h), (sym (rw h), sym (rw h))))
 
-  pub start-fit :
+  pub start_fit :
       fitting words answer ≡ true → (x : Answer) → x ≡ start_answer f rows depth work →
       (n : ℕ) (w r a : List ℕ) → n ≡ outcome_number x.outcome → w ≡ start_work f rows depth work →
       r ≡ record_words x.next → a ≡ answer_words x.outcome → Starts n w r a
-  start-fit h x is n w r a en ew er ea = (
+  start_fit h x is n w r a en ew er ea = (
     rw h (en ∙ ap (λ (y : Answer). outcome_number y.outcome) is),
     (
       rw h ew,
@@ -65,12 +65,12 @@ module _ (f words work reports : List ℕ) (byte : ℕ) (answer : List ℕ) wher
   pub event_misfit : fitting words answer ≡ false → Steps 100 words work reports answer
   event_misfit h = (sym (rw h), (sym (rw h), (sym (rw h), (sym (rw h), sym (rw h)))))
 
-  pub event-fit :
+  pub event_fit :
       fitting words answer ≡ true → (given : Record) → given ≡ record_in words → (x : Answer) → x ≡ event_answer f given work reports byte →
       (n : ℕ) (r w p a : List ℕ) → n ≡ outcome_number x.outcome → r ≡ next_words x.outcome x.next words →
       w ≡ event_work f given work reports byte → p ≡ event_reports f given work reports byte → a ≡ answer_words x.outcome →
       Steps n r w p a
-  event-fit h given in_words_lem x is n r w p a en er ew ep ea =
+  event_fit h given in_words_lem x is n r w p a en er ew ep ea =
       let all : x ≡ event_answer f (record_in words) work reports byte = is ∙ ap (λ (y : Record). event_answer f y work reports byte) in_words_lem in (
         rw h (en ∙ ap (λ (y : Answer). outcome_number y.outcome) all),
         (

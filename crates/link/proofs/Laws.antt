@@ -63,24 +63,24 @@ either true h g = h
 either false h g = g
 
 -- A refused start leaves work memory as it was and writes zeros to the record.
-pub refused-start :
+pub refused_start :
     (f : List ℕ) (rows depth : ℕ) (work words answer : List ℕ) → length words ≡ 6 → length answer ≡ 4 →
     0 < start_number f rows depth work words answer →
     (start_leaves_work f rows depth work words answer ≡ work)
     × (start_leaves_record f rows depth work words answer ≡ 0 ∷ 0 ∷ 0 ∷ 0 ∷ 0 ∷ 0 ∷ [])
-refused-start f rows depth work words answer six four h =
+refused_start f rows depth work words answer six four h =
     let fits = both_lengths words answer six four in
-    let kept = engine.start-refused-keeps f rows depth work (rw fits at h) in
+    let kept = engine.start_refused_keeps f rows depth work (rw fits at h) in
     (rw fits kept.1, rw fits (ap record_words kept.0))
 
 module _ (f words work reports : List ℕ) (byte : ℕ) (answer : List ℕ) where
   -- A number other than 0 means that record, work memory and reports are as they were.
-  pub refused-keeps :
+  pub refused_keeps :
       0 < event_number f words work reports byte answer →
       (event_leaves_record f words work reports byte answer ≡ words)
       × (event_leaves_work f words work reports byte answer ≡ work)
       × (event_leaves_reports f words work reports byte answer ≡ reports)
-  refused-keeps = go (fitting words answer)
+  refused_keeps = go (fitting words answer)
     where
       go :
           (b : Bool) →
@@ -91,7 +91,7 @@ module _ (f words work reports : List ℕ) (byte : ℕ) (answer : List ℕ) wher
           × (cond b (event_reports f (record_in words) work reports byte) reports ≡ reports)
       go true h =
           let x = answered f words work reports byte in
-          let kept = engine.refused-keeps f (record_in words) work reports byte h in
+          let kept = engine.refused_keeps f (record_in words) work reports byte h in
           (old_words x.outcome x.next words h, kept.1, kept.2)
       go false h = (refl, refl, refl)
 
@@ -119,31 +119,31 @@ module _ (f words work reports : List ℕ) (byte : ℕ) (answer : List ℕ) wher
         rw (too_many (record_in words) (omega (arith, e)))
 
     -- A sixth word above 1: the number is that of the first of 1 to 6 that applies, and 7 where none does.
-    pub sixth-number :
+    pub sixth_number :
         event_number f words work reports byte answer
         ≡ judged_number (first_of (first_six f words work reports) (judged.Refused (why.Order (length work))))
-    sixth-number =
+    sixth_number =
         rw fits
         (engine.answer_number (event_judged f (record_in words) work reports byte) (record_in words) (event_after f (record_in words) work byte)
         ∙ ap judged_number out_of_order)
 
-    seven-exactly :
+    seven_exactly :
         (event_number f words work reports byte answer ≡ 7)
         ↔ ((i : ℕ) → applies_at (first_six f words work reports) i ≡ false)
-    seven-exactly =
+    seven_exactly =
         let exactly = taken_exactly judged_number order (first_six f words work reports) tt in
-        (λ h. exactly.0 (sym sixth-number ∙ h), λ h. sixth-number ∙ exactly.1 h)
+        (λ h. exactly.0 (sym sixth_number ∙ h), λ h. sixth_number ∙ exactly.1 h)
 
-    seven-place :
+    seven_place :
         event_number f words work reports byte answer ≡ 7 →
         event_leaves_answer f words work reports byte answer ≡ 0 ∷ length work ∷ 0 ∷ 0 ∷ []
-    seven-place h =
-        let stands = out_of_order ∙ none_taken judged_number order (first_six f words work reports) (seven-exactly.0 h) in
+    seven_place h =
+        let stands = out_of_order ∙ none_taken judged_number order (first_six f words work reports) (seven_exactly.0 h) in
         rw fits (ap (λ (j : Judged). answer_words (answer_of j (record_in words) (event_after f (record_in words) work byte)).outcome) stands)
 
     -- A sixth word above 1: the number is one of 1 to 7; it is 7, with the length of work memory as its place, exactly when
     -- none of 1 to 6 applies; and record, work memory and reports are as they were.
-    pub sixth-above-one :
+    pub sixth_above_one :
         let n = event_number f words work reports byte answer in
         ((1 ≤ n) × (n ≤ 7))
         × (((n ≡ 7) ↔ ((i : ℕ) → applies_at (first_six f words work reports) i ≡ false))
@@ -151,6 +151,6 @@ module _ (f words work reports : List ℕ) (byte : ℕ) (answer : List ℕ) wher
         × ((event_leaves_record f words work reports byte answer ≡ words)
         × (event_leaves_work f words work reports byte answer ≡ work)
         × (event_leaves_reports f words work reports byte answer ≡ reports))))
-    sixth-above-one =
-        let low : 1 ≤ event_number f words work reports byte answer = omega (arith, sixth-number, one_to_seven.low) in
-        ((low, omega (arith, sixth-number, one_to_seven.high)), (seven-exactly, (seven-place, refused-keeps low)))
+    sixth_above_one =
+        let low : 1 ≤ event_number f words work reports byte answer = omega (arith, sixth_number, one_to_seven.low) in
+        ((low, omega (arith, sixth_number, one_to_seven.high)), (seven_exactly, (seven_place, refused_keeps low)))

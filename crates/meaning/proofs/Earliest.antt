@@ -14,7 +14,7 @@ use Rattle.meaning.specs.Sets.{LevelSet}
 use Rattle.meaning.specs.Streams.{Event, Run, run, marked, positions, Prefix, Completes, Certain, RuledOut, Alive}
 use Rattle.meaning.specs.Table.{Table, WellFormed}
 use Rattle.meaning.proofs.Core.{core, ends}
-use Rattle.meaning.proofs.Rows.{row_is, level-is, marked_in}
+use Rattle.meaning.proofs.Rows.{row_is, level_is, marked_in}
 use Rattle.meaning.proofs.Smallest.{finals_are, others_are}
 use Rattle.meaning.proofs.Streams.{reads_join, reads_rest, close_all, closes_all, run_append, run_depth, run_ahead}
 
@@ -24,11 +24,11 @@ module _ (t : Table) where
   mark_behind r h c = ap (λ (m : ℕ). (run t (record { ahead = m; newest = r.newest; aside = r.aside }) c).newest) h
 
   -- The core theorem for a marked run: its newest state is in the newest set exactly when each completion ends in F.
-  pub core-marked :
+  pub core_marked :
       (F : ℕ → Type 0) (i : ℕ) {w : List Event} {d : ℕ} → Prefix t w d → i ≤ positions w →
       LevelSet t F (marked t i w).aside (marked t i w).newest
       ↔ ((c : List Event) → Completes t w c → F (marked t i (w ++ c)).newest)
-  core-marked F i {w} {d} r h =
+  core_marked F i {w} {d} r h =
       let b : Run = record { ahead = i; newest = t.start; aside = [] } in
       let m : Run = run t b w in
       let e : length m.aside ≡ d = run_depth t r b refl in
@@ -53,8 +53,8 @@ module _ (t : Table) (wf : WellFormed t) (i : ℕ) {w : List Event} {d : ℕ} (r
       let m = marked t i w in
       let a = marked_in t wf i r in
       let F : ℕ → Type 0 = λ q. T (t.final q) in
-      let l = level-is t wf (finals_of t) F (finals_are t) m.aside a.aside_in m.newest a.newest_in in
-      let k = core-marked t F i r read in
+      let l = level_is t wf (finals_of t) F (finals_are t) m.aside a.aside_in m.newest a.newest_in in
+      let k = core_marked t F i r read in
       rw (row_is t i w) (λ x. k.0 (l.0 x), λ x. l.1 (k.1 x))
 
   -- Ruled out exactly when the newest state of the position's row is in its newest rejecting set.
@@ -63,8 +63,8 @@ module _ (t : Table) (wf : WellFormed t) (i : ℕ) {w : List Event} {d : ℕ} (r
       let m = marked t i w in
       let a = marked_in t wf i r in
       let F : ℕ → Type 0 = λ q. ¬ T (t.final q) in
-      let l = level-is t wf (others_of t) F (others_are t) m.aside a.aside_in m.newest a.newest_in in
-      let k = core-marked t F i r read in
+      let l = level_is t wf (others_of t) F (others_are t) m.aside a.aside_in m.newest a.newest_in in
+      let k = core_marked t F i r read in
       rw (row_is t i w) (λ x. k.0 (l.0 x), λ x. l.1 (k.1 x))
 
   -- Certain, ruled out or alive holds of every position read, and which one is computed from its row.

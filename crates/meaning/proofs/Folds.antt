@@ -28,11 +28,11 @@ module _ (f : ℕ → ℕ → ℕ) (keeps : (i y : ℕ) → Within y (f i y)) wh
       go (no m) ih = subst (λ (j : ℕ). T (has (f j (upto n f x)) r)) (omega arith) (h (upto n f x) (upto_keeps n x))
 
 -- What every turn keeps within X stays within X.
-pub upto-lies :
+pub upto_lies :
     (f : ℕ → ℕ → ℕ) (X : ℕ → Type 0) (n : ℕ) → ((i y : ℕ) → i < n → Lies y X → Lies (f i y) X) →
     (x : ℕ) → Lies x X → Lies (upto n f x) X
-upto-lies f X zero h x g = g
-upto-lies f X (suc n) h x g = h n (upto n f x) (omega arith) (upto-lies f X n (λ i y l. h i y (omega arith)) x g)
+upto_lies f X zero h x g = g
+upto_lies f X (suc n) h x g = h n (upto n f x) (omega arith) (upto_lies f X n (λ i y l. h i y (omega arith)) x g)
 
 -- One state more, where a test passes
 
@@ -66,7 +66,7 @@ module _ (n : ℕ) (test : ℕ → Bool) where
   pub collect_take : (r : ℕ) → T (has (collect n test) r) → (r < n) × T (test r)
   collect_take =
       let Passes : ℕ → Type 0 = λ r. (r < n) × T (test r) in
-      upto-lies (λ q x. cond (test q) (added x q) x) Passes n
+      upto_lies (λ q x. cond (test q) (added x q) x) Passes n
       (λ q x l h. cond_lies (test q) x (added x q) Passes (λ g. added_lies x q Passes h (l, g)) h)
       0 (λ r h. absurd (has_none r h))
 
@@ -91,10 +91,10 @@ tabulate_at (suc n) f rest i l =
         subst (λ (j : ℕ). get_or (tabulate n f ++ (f n ∷ rest)) j 0 ≡ f j) e seam
 
 -- One value more of a table whose other places are 0.
-pub tabulate-more :
+pub tabulate_more :
     (size n v : ℕ) (f : ℕ → ℕ) → n < size → v ≡ f n →
     set (tabulate n f ++ replicate (size - n) 0) n v ≡ tabulate (n + 1) f ++ replicate (size - (n + 1)) 0
-tabulate-more size n v f l e =
+tabulate_more size n v f l e =
     let z : size - n ≡ suc (size - suc n) = omega arith in
     rw (z, add-one n, e)
     (subst (λ (i : ℕ). set (tabulate n f ++ (0 ∷ rest)) i (f n) ≡ tabulate n f ++ (f n ∷ rest)) (tabulate_length n f) (set-append_seam (tabulate n f) 0 rest (f n))

@@ -189,6 +189,6 @@ module _ (t : Table) where
   acc_is_reached q r = (acc_leads, λ x. subst (Acc t q) x.2 (evaluated_acc x.1 q))
 
   -- T is the set of states that some hedge leads some O(a) to: the last states of trees.
-  pub trees-are-reached :
+  pub trees_are_reached :
       (p : ℕ) → Tree t p ↔ ((a : ℕ) × (a < t.labels) × ((h : Hedge) × Labelled t.labels h × (evaluate t 0 (t.opening a) h ≡ p)))
-  trees-are-reached p = (tree_leads, λ x. tree_acc t (Tree.opened x.1) ((acc_is_reached (t.opening x.0) p).1 x.2))
+  trees_are_reached p = (tree_leads, λ x. tree_acc t (Tree.opened x.1) ((acc_is_reached (t.opening x.0) p).1 x.2))

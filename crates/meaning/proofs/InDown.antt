@@ -12,10 +12,10 @@ use Rattle.meaning.proofs.Masks.{has_lt, within_give, within_take, small}
 use Rattle.meaning.proofs.Tests.{same_test, and_both, and_left, and_right, implies_give, implies_take, all_give, all_take}
 
 -- Membership in down(q,x) without the set: r is in it exactly when acc(r) passes `in_down`, for any list of 64-bit masks.
-pub in-down :
+pub in_down_lem :
     (t : Table) → t.states ≤ 64 → (accs : List ℕ) (q x r : ℕ) → r < t.states → get_or accs r 0 < 2 ^ 64 →
     has (down_of t accs q x) r ≡ in_down t (get_or accs r 0) q x
-in-down t few accs q x r l small =
+in_down_lem t few accs q x r l small =
     let acc : ℕ = get_or accs r 0 in
     let into : ℕ → Bool = λ p. has x (t.apply q p) in
     let inX : ℕ → Bool = λ r. within (get_or accs r 0) (into_of t q x) in

@@ -25,12 +25,12 @@ with_mark t m =
     }
 
 -- Mark steps never count: with any other mark steps the masks are the same.
-pub marks-never-count :
+pub marks_never_count :
     (t : Table) (m : ℕ → ℕ) →
     (trees_of (with_mark t m) ≡ trees_of t)
     × (accs_of (with_mark t m) ≡ accs_of t)
     × ((accs : List ℕ) (q x : ℕ) → down_of (with_mark t m) accs q x ≡ down_of t accs q x)
-marks-never-count t m = (refl, refl, λ accs q x. refl)
+marks_never_count t m = (refl, refl, λ accs q x. refl)
 
 module _ (t : Table) (m n : ℕ → ℕ) where
   tree_unmarked : {r : ℕ} → Tree (with_mark t m) r → Tree (with_mark t n) r
@@ -44,15 +44,15 @@ module _ (t : Table) (m n : ℕ → ℕ) where
   acc_unmarked (Acc.applied h g) = Acc.applied (acc_unmarked h) (tree_unmarked g)
 
 -- Nor do they count in the smallest sets: two tables that differ in their mark steps alone have the same T and acc.
-pub marks-never-counted :
+pub marks_never_counted :
     (t : Table) (m n : ℕ → ℕ) (q r : ℕ) →
     (Tree (with_mark t m) r ↔ Tree (with_mark t n) r) × (Acc (with_mark t m) q r ↔ Acc (with_mark t n) q r)
-marks-never-counted t m n q r = ((tree_unmarked t m n, tree_unmarked t n m), (acc_unmarked t m n, acc_unmarked t n m))
+marks_never_counted t m n q r = ((tree_unmarked t m n, tree_unmarked t n m), (acc_unmarked t m n, acc_unmarked t n m))
 
 -- Nested trees do count: with q and p in T, A(q,p) is in T.
-pub nested-trees-count :
+pub nested_trees_count :
     (t : Table) → WellFormed t → (q p : ℕ) → T (has (trees_of t) q) → T (has (trees_of t) p) → T (has (trees_of t) (t.apply q p))
-nested-trees-count t wf q p h g =
+nested_trees_count t wf q p h g =
     (trees_are t wf (t.apply q p)).1 (Tree.applied ((trees_are t wf q).0 h) ((trees_are t wf p).0 g))
 
 -- A table of three states whose T has state 1 by a tree in a tree, and state 2 by a tree in a tree in a tree.
@@ -70,7 +70,7 @@ nested_table =
     }
 
 -- There T is {0, 1, 2}; with nested trees left out it would be {0}.
-pub nested-trees-matter :
+pub nested_trees_matter :
     (trees_of nested_table ≡ 7) × (rounds 3 (round_of nested_table 0) (openings_of nested_table) ≡ 1)
 unfolding added
-nested-trees-matter = (refl, refl)
+nested_trees_matter = (refl, refl)

@@ -49,14 +49,14 @@ module _ {A : Type 0} (number : A → ℕ) (otherwise : A) where
   never_otherwise x (l ∷ ls) h e =
       never_otherwise x ls (and_right (not (eqb x (number l.gives))) (absent x (numbers number ls otherwise)) h) e
 
-  given-first :
+  given_first :
       (ls : List (Line A)) (i : ℕ) → T (distinct (numbers number ls otherwise)) → i < length ls →
       number (first_of ls otherwise) ≡ number (gives_at ls otherwise i) → FirstAt ls i
-  given-first [] i h m e = absurd (omega arith)
-  given-first (l ∷ ls) i h m e =
+  given_first [] i h m e = absurd (omega arith)
+  given_first (l ∷ ls) i h m e =
       let rest : List ℕ = numbers number ls otherwise in
       go l.applies refl i m e (and_left (absent (number l.gives) rest) (distinct rest) h)
-      (λ j k g. given-first ls j (and_right (absent (number l.gives) rest) (distinct rest) h) k g)
+      (λ j k g. given_first ls j (and_right (absent (number l.gives) rest) (distinct rest) h) k g)
     where
       go :
           (b : Bool) → l.applies ≡ b → (i : ℕ) → i < length (l ∷ ls) →
@@ -76,10 +76,10 @@ module _ {A : Type 0} (number : A → ℕ) (otherwise : A) where
           before f (suc j) m = f.none_before j (omega arith)
 
   -- The number of line i is given exactly when line i applies and none before it does.
-  pub given-exactly :
+  pub given_exactly :
       (ls : List (Line A)) → T (distinct (numbers number ls otherwise)) → (i : ℕ) → i < length ls →
       (number (first_of ls otherwise) ≡ number (gives_at ls otherwise i)) ↔ FirstAt ls i
-  given-exactly ls h i m = (given-first ls i h m, λ f. ap number (first_gives ls i f))
+  given_exactly ls h i m = (given_first ls i h m, λ f. ap number (first_gives ls i f))
 
   taken_none :
       (ls : List (Line A)) → T (distinct (numbers number ls otherwise)) → number (first_of ls otherwise) ≡ number otherwise →

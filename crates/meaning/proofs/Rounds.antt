@@ -49,12 +49,12 @@ module _ {n : ℕ} {f : ℕ → ℕ} (adds : OnlyAdds n f) where
       go (no h) = inr (omega arith)
 
   -- Among the first j rounds is the last one, or each of them added a state.
-  search-last :
+  search_last :
       (x : ℕ) → x < 2 ^ n → (j : ℕ) →
       ((i : ℕ) × (i + card n x ≤ n) × LastAfter n f x i)
       ⊎ (((i : ℕ) → i < j → card n (rounds i f x) < card n (rounds (suc i) f x)) × (j + card n x ≤ card n (rounds j f x)))
-  search-last x l zero = inr (λ i h. absurd (omega arith), omega arith)
-  search-last x l (suc j) = go (search-last x l j) (adds_or_last (rounds j f x) (rounds_lt j x l))
+  search_last x l zero = inr (λ i h. absurd (omega arith), omega arith)
+  search_last x l (suc j) = go (search_last x l j) (adds_or_last (rounds j f x) (rounds_lt j x l))
     where
       Adding : ℕ → Type 0
       Adding m = (i : ℕ) → i < m → card n (rounds i f x) < card n (rounds (suc i) f x)
@@ -80,7 +80,7 @@ module _ {n : ℕ} {f : ℕ → ℕ} (adds : OnlyAdds n f) where
 
   -- A set of c states is closed after j rounds with j + c ≤ n, each of which adds a state; round j + 1 is the last.
   pub closes : (x : ℕ) → x < 2 ^ n → (j : ℕ) × (j + card n x ≤ n) × LastAfter n f x j
-  closes x l = go (search-last x l (suc n))
+  closes x l = go (search_last x l (suc n))
     where
       go :
           ((i : ℕ) × (i + card n x ≤ n) × LastAfter n f x i)

@@ -50,32 +50,32 @@ module _ (t : Table) where
   close_row m p (q ∷ s) = refl
 
   -- By the rules, a row steps as its run does.
-  pub row-follows :
+  pub row_follows :
       (w : List Event) (r : Run) →
       follow_row t (accs_of t) r.ahead (row_of t r.newest r.aside) w ≡ row_of t (run t r w).newest (run t r w).aside
-  row-follows [] r = refl
-  row-follows (Open a ∷ w) r =
+  row_follows [] r = refl
+  row_follows (Open a ∷ w) r =
       ap (λ (x : Row). follow_row t (accs_of t) (pred r.ahead) x w) (mark_row_lem r.ahead (t.opening a) (r.newest ∷ r.aside))
-      ∙ row-follows w (step t r (Open a))
-  row-follows (Point a ∷ w) r =
+      ∙ row_follows w (step t r (Open a))
+  row_follows (Point a ∷ w) r =
       ap (λ (x : Row). follow_row t (accs_of t) (pred r.ahead) x w) (mark_row_lem r.ahead (t.point r.newest a) r.aside)
-      ∙ row-follows w (step t r (Point a))
-  row-follows (Close ∷ w) r =
+      ∙ row_follows w (step t r (Point a))
+  row_follows (Close ∷ w) r =
       ap (λ (x : Row). follow_row t (accs_of t) r.ahead x w) (close_row r.ahead r.newest r.aside)
       ∙ ap (λ (m : ℕ). follow_row t (accs_of t) m (row_of t (step t r Close).newest (step t r Close).aside) w) (sym (close_ahead t r.ahead r.newest r.aside))
-      ∙ row-follows w (step t r Close)
+      ∙ row_follows w (step t r Close)
 
   -- The row of position i after w is the row of the run marked at i.
   pub row_is : (i : ℕ) (w : List Event) → row_after t i w ≡ row_of t (marked t i w).newest (marked t i w).aside
-  row_is i w = row-follows w (record { ahead = i; newest = t.start; aside = [] })
+  row_is i w = row_follows w (record { ahead = i; newest = t.start; aside = [] })
 
   module _ (wf : WellFormed t) where
     -- A level's mask is the level's set.
-    pub level-is :
+    pub level_is :
         (f : ℕ) (F : ℕ → Type 0) → IsMask t.states f F → (s : List ℕ) → AllBelow t.states s →
         IsMask t.states (level_mask t f s) (LevelSet t F s)
-    level-is f F h [] b = safe_is t wf f F h
-    level-is f F h (q ∷ s) (more l b) = down_is t wf (level_mask t f s) (LevelSet t F s) (level-is f F h s b) q l
+    level_is f F h [] b = safe_is t wf f F h
+    level_is f F h (q ∷ s) (more l b) = down_is t wf (level_mask t f s) (LevelSet t F s) (level_is f F h s b) q l
 
     mark_in : (m q : ℕ) → q < t.states → marking t m q < t.states
     mark_in zero q l = l

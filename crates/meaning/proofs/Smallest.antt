@@ -10,7 +10,7 @@ use lib.Pow.{pow-lt}
 use Rattle.meaning.specs.Masks.{has, added, within, rounds, points_of, applies_of, follow_of, round_of, openings_of, trees_of, acc_of, accs_of, safe_of, into_of, down_of, finals_of, others_of}
 use Rattle.meaning.specs.Sets.{Tree, Acc, Safe, Down}
 use Rattle.meaning.specs.Table.{Table, WellFormed}
-use Rattle.meaning.proofs.Folds.{upto_keeps, upto_gains, upto-lies, cond_keeps, cond_gains, cond_lies, added_lies, collect_give, collect_take, tabulate_at}
+use Rattle.meaning.proofs.Folds.{upto_keeps, upto_gains, upto_lies, cond_keeps, cond_gains, cond_lies, added_lies, collect_give, collect_take, tabulate_at}
 use Rattle.meaning.proofs.Masks.{Within, Lies, IsMask, card_some, has_none, has_lt, only_give, only_take, added_keeps, added_gains, within_give, within_take, small}
 use Rattle.meaning.proofs.Rounds.{OnlyAdds, LastAfter, rounds_keep, closes, settled}
 
@@ -32,7 +32,7 @@ module _ (t : Table) where
 
   openings_lie : (X : ℕ → Type 0) → ((a : ℕ) → a < t.labels → X (t.opening a)) → Lies (openings_of t) X
   openings_lie X h =
-      upto-lies (λ a y. added y (t.opening a)) X t.labels (λ a y l g. added_lies y (t.opening a) X g (h a l)) 0
+      upto_lies (λ a y. added y (t.opening a)) X t.labels (λ a y l g. added_lies y (t.opening a) X g (h a l)) 0
       (λ r g. absurd (has_none r g))
 
   module _ (trees : ℕ) where
@@ -58,17 +58,17 @@ module _ (t : Table) where
     round_keeps x = upto_keeps (follow_of t trees) follow_keeps t.states x
 
     -- A round gains what each state of the set steps to.
-    round-gains :
+    round_gains :
         (x q r : ℕ) → q < t.states → T (has x q) → ((y : ℕ) → T (has (applies_of t trees q (points_of t q y)) r)) → T (has (round_of t trees x) r)
-    round-gains x q r l h g =
+    round_gains x q r l h g =
         upto_gains (follow_of t trees) follow_keeps t.states x q r l
         (λ y w. cond_gains (has y q) y (applies_of t trees q (points_of t q y)) r (w q h) (g y))
 
     round_points : (x q a : ℕ) → q < t.states → T (has x q) → a < t.labels → T (has (round_of t trees x) (t.point q a))
-    round_points x q a l h m = round-gains x q (t.point q a) l h (λ y. applies_keep q (points_of t q y) (t.point q a) (point_in q y a m))
+    round_points x q a l h m = round_gains x q (t.point q a) l h (λ y. applies_keep q (points_of t q y) (t.point q a) (point_in q y a m))
 
     round_applies : (x q p : ℕ) → q < t.states → T (has x q) → p < t.states → T (has trees p) → T (has (round_of t trees x) (t.apply q p))
-    round_applies x q p l h m g = round-gains x q (t.apply q p) l h (λ y. apply_in q (points_of t q y) p m g)
+    round_applies x q p l h m g = round_gains x q (t.apply q p) l h (λ y. apply_in q (points_of t q y) p m g)
 
     -- A round stays within every set that is closed under the steps.
     module _ (X Y : ℕ → Type 0)
@@ -76,17 +76,17 @@ module _ (t : Table) where
         (by-apply : (q p : ℕ) → X q → p < t.states → Y p → X (t.apply q p)) where
       points_lie : (q x : ℕ) → X q → Lies x X → Lies (points_of t q x) X
       points_lie q x h =
-          upto-lies (λ a y. added y (t.point q a)) X t.labels (λ a y l g. added_lies y (t.point q a) X g (by-point q a h l)) x
+          upto_lies (λ a y. added y (t.point q a)) X t.labels (λ a y l g. added_lies y (t.point q a) X g (by-point q a h l)) x
 
       applies_lie : (q x : ℕ) → X q → Lies trees Y → Lies x X → Lies (applies_of t trees q x) X
       applies_lie q x h k =
-          upto-lies (λ p y. cond (has trees p) (added y (t.apply q p)) y) X t.states
+          upto_lies (λ p y. cond (has trees p) (added y (t.apply q p)) y) X t.states
           (λ p y l g. cond_lies (has trees p) y (added y (t.apply q p)) X (λ m. added_lies y (t.apply q p) X g (by-apply q p h l (k p m))) g)
           x
 
       round_lies : (x : ℕ) → Lies trees Y → Lies x X → Lies (round_of t trees x) X
       round_lies x k =
-          upto-lies (follow_of t trees) X t.states
+          upto_lies (follow_of t trees) X t.states
           (λ q y l g.
           cond_lies (has y q) y (applies_of t trees q (points_of t q y)) X
           (λ m. applies_lie q (points_of t q y) (g q m) k (points_lie q y (g q m) g)) g)
@@ -202,9 +202,9 @@ module _ (t : Table) (wf : WellFormed t) where
             (same r (acc_in l a)).1 (h r a)))),
       )
 
-  into-is :
+  into_is :
       (x : ℕ) (X : ℕ → Type 0) → IsMask t.states x X → (q : ℕ) → q < t.states → IsMask t.states (into_of t q x) (λ p. X (t.apply q p))
-  into-is x X same q l p m =
+  into_is x X same q l p m =
       let into : ℕ → Bool = λ p. has x (t.apply q p) in (
         λ h. (same (t.apply q p) (wf.apply_in q p l m)).0 (collect_take t.states into p h).1,
         λ h. collect_give t.states into p m ((same (t.apply q p) (wf.apply_in q p l m)).1 h),
@@ -213,7 +213,7 @@ module _ (t : Table) (wf : WellFormed t) where
   -- The mask of down(q,x) is down(q,X), where x is X's mask.
   pub down_is :
       (x : ℕ) (X : ℕ → Type 0) → IsMask t.states x X → (q : ℕ) → q < t.states → IsMask t.states (down_of t (accs_of t) q x) (Down t q X)
-  down_is x X same q l = safe_is (into_of t q x) (λ p. X (t.apply q p)) (into-is x X same q l)
+  down_is x X same q l = safe_is (into_of t q x) (λ p. X (t.apply q p)) (into_is x X same q l)
 
 -- The mask of the final states is the set of final states.
 pub finals_are : (t : Table) → IsMask t.states (finals_of t) (λ q. T (t.final q))

@@ -28,10 +28,10 @@ module _ (t : Table) (accs : List ℕ) where
   pub stays_as : (e : Event) (r : Row) (q : ℕ) (b : Bool) → q ≡ next_state t e r → b ≡ not (is_decided (in_row q (step_row t accs e r))) → b ≡ not (is_decided (step_row t accs e r))
   stays_as e r q b k told = told ∙ ap (λ (x : ℕ). not (is_decided (in_row x (step_row t accs e r)))) (k ∙ next_is e r)
 
-  pub new-stays-as :
+  pub new_stays_as :
       (e : Event) (r : Row) (q s : ℕ) (b : Bool) → q ≡ next_state t e r → s ≡ t.mark q → b ≡ not (is_decided (in_row s (step_row t accs e r))) →
       b ≡ not (is_decided (mark_row t (step_row t accs e r)))
-  new-stays-as e r q s b k m told = told ∙ ap (λ (x : ℕ). not (is_decided (in_row x (step_row t accs e r)))) (m ∙ ap t.mark (k ∙ next_is e r))
+  new_stays_as e r q s b k m told = told ∙ ap (λ (x : ℕ). not (is_decided (in_row x (step_row t accs e r)))) (m ∙ ap t.mark (k ∙ next_is e r))
 
 module _ {t : Table} (f : WellFormed t) where
   close_in : (d : ℕ) (words : List ℕ) → RowIn t.states d words → 0 < d → next_state t Close (row_in d words) < t.states
@@ -59,9 +59,9 @@ pub row_in_lem :
 row_in_lem n w d count r words words₀ h l same = rw same (h.each r l)
 
 -- It can take what a row of w words can.
-pub row-can :
+pub row_can :
     (w d r : ℕ) (words : List ℕ) → r * w + w ≤ length words → (t : Table) (e : Event) → Can t w d e → Can t (length (row_of w r words)) d e
-row-can w d r words fits t e c = rw (part_length words (r * w) w fits) c
+row_can w d r words fits t e c = rw (part_length words (r * w) w fits) c
 
 -- Its words are those of the row that it stands for.
 pub row_words_lem : (n w d count r : ℕ) (words : List ℕ) → RowsIn n w d count words → r < count → row_of w r words ≡ row_words w (held_in d (row_of w r words))
@@ -86,10 +86,10 @@ module _ (g : Held → List ℕ) (w d n : ℕ) (words₀ : List ℕ) where
     pub stepped_rest : drop (r * w) words ≡ drop (r * w) words₀
     stepped_rest = rest_as w r words₀ (each g (helds_in w d r words₀)) words i.front i.size
 
-    pub stepped-next :
+    pub stepped_next :
         r < n → r * w + w ≤ length words → (ys : List ℕ) → ys ≡ g (held_in d (row_of w r words₀)) → length ys ≡ w →
         Stepped (take (r * w) words ++ (ys ++ drop w (drop (r * w) words))) (r + 1)
-    stepped-next h fits ys e l =
+    stepped_next h fits ys e l =
         let more : each g (helds_in w d (r + 1) words₀) ≡ each g (helds_in w d r words₀) ++ ys = each_next g w d r words₀ ∙ ap (λ (zs : List ℕ). each g (helds_in w d r words₀) ++ zs) (sym e) in
         record {
           r_max = omega arith;
@@ -218,11 +218,11 @@ module _ (w d n : ℕ) (words₀ : List ℕ) where
         }
 
   -- The rest is made 0.
-  pub closed-end :
+  pub closed_end :
       n * w ≤ length words₀ → (words : List ℕ) (left : ℕ) → Closed words n left →
       take (left * w) words ++ (replicate (n * w - left * w) 0 ++ drop (n * w - left * w) (drop (left * w) words))
       ≡ padded (n * w) (all_words w (left_of (helds_in w d n words₀))) ++ drop (n * w) words₀
-  closed-end fits words left i =
+  closed_end fits words left i =
       let kept : List ℕ = all_words w (left_of (helds_in w d n words₀)) in
       let le : left * w ≤ n * w = mul-le-mul_right w i.left_max in
       let k : left * w + (n * w - left * w) ≡ n * w = omega arith in
@@ -245,10 +245,10 @@ module _ (w r : ℕ) (words last : List ℕ) (fits : r * w + w ≤ length words)
       ∙ copied_part words (drop 0 words) (r * w) w fits (omega arith)
       ∙ ap (λ (x : ℕ). take w (drop x words)) (sym (zero-mul w))
 
-  pub copied-end :
+  pub copied_end :
       (f : List ℕ → Held) (ys : List ℕ) → ys ≡ row_words (length (row_of w r last)) (f (row_of w r last)) →
       take (r * w) last ++ (ys ++ drop w (drop (r * w) last)) ≡ take (r * w) words ++ row_words w (f (row_of w 0 words)) ++ drop ((r + 1) * w) words
-  copied-end f ys e =
+  copied_end f ys e =
       let size : length (row_of w r last) ≡ w = part_length last (r * w) w (omega (arith, copied_length)) in
       let told : ys ≡ row_words w (f (row_of w 0 words)) = e ∙ ap (λ (x : ℕ). row_words x (f (row_of w r last))) size ∙ ap (λ (xs : List ℕ). row_words w (f xs)) copied_row in
       ap (λ (xs : List ℕ). take (r * w) xs ++ (ys ++ drop w (drop (r * w) xs))) copied

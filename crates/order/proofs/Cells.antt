@@ -29,11 +29,11 @@ later s words zero x h = absurd (omega arith)
 later s words (suc r) x h = let e : suc r - 1 ≡ r = omega arith in rw e
 
 -- The words after the rows do not matter for a word of them.
-pub cell-in-rows :
+pub cell_in_rows :
     (s : Shape) (words : List ℕ) (r c : ℕ) → row_at s.allowed r + c < labels_from s →
     cell_right s (take (labels_from s) words) r c ≡ cell_right s words r c
-cell-in-rows s words zero c h = rw (get_or-take (labels_from s) words (row_at s.allowed 0 + c) 0 h)
-cell-in-rows s words (suc r) c h =
+cell_in_rows s words zero c h = rw (get_or-take (labels_from s) words (row_at s.allowed 0 + c) 0 h)
+cell_in_rows s words (suc r) c h =
     let before : row_at s.allowed r + position_at < labels_from s = omega (arith, mul-le-mul_right (row_length s.allowed) (le-suc r), h) in
     rw (get_or-take (labels_from s) words (row_at s.allowed (suc r) + c) 0 h, get_or-take (labels_from s) words (row_at s.allowed r + position_at) 0 before)
 

@@ -14,12 +14,12 @@ use Rattle.meaning.proofs.Tests.{both_true}
 use Rattle.places.specs.Places.{state_at, row_length, row_at, row_of, label_level}
 use Rattle.places.specs.Memory.{RowIn, RowsIn, LabelsIn}
 use Rattle.places.proofs.Zeros.{rest_of_zeros, row_of_zeros}
-use Rattle.places.proofs.Labels.{labels-of-zeros}
+use Rattle.places.proofs.Labels.{labels_of_zeros}
 use Rattle.order.specs.declared.Shape.{Shape}
 use Rattle.order.specs.declared.Place.TheVariants.{Fine}
 use Rattle.order.specs.Order.{cell_right, label_right, labels_from, word_right, first_fault}
-use Rattle.order.proofs.Cells.{row_fits, cell-in-rows, row_unused, first_position, later_position, level_unused, state_used}
-use Rattle.order.proofs.Search.{at-cell, at_label, fine_all}
+use Rattle.order.proofs.Cells.{row_fits, cell_in_rows, row_unused, first_position, later_position, level_unused, state_used}
+use Rattle.order.proofs.Search.{at_cell, at_label, fine_all}
 
 -- How many words a row has.
 abbrev width : Shape → ℕ
@@ -93,8 +93,8 @@ module _ (s : Shape) (words : List ℕ) (fine : first_fault s words ≡ Fine) (l
   pub cells_right : (r c : ℕ) → r < s.rows → c < width s → cell_right s (take (labels_from s) words) r c ≡ true
   cells_right r c h l =
       let inside = row_fits s.rows r (width s) _ (labels_from s) refl h (omega arith) in
-      cell-in-rows s words r c (omega (arith, inside))
-      ∙ sym (at-cell s words _ r c refl l h) ∙ right_at (row_at s.allowed r + c) (omega (arith, inside))
+      cell_in_rows s words r c (omega (arith, inside))
+      ∙ sym (at_cell s words _ r c refl l h) ∙ right_at (row_at s.allowed r + c) (omega (arith, inside))
 
   label_right_lem : (l : ℕ) → l < s.allowed → label_right s (label_level l) (get_or (drop (labels_from s) words) l 0) ≡ true
   label_right_lem l h =
@@ -120,7 +120,7 @@ module _ (s : Shape) (words : List ℕ) (fine : first_fault s words ≡ Fine) (l
       record {
         short = omega (arith, labels_long);
         deep = omega (arith, labels_long);
-        same = labels-of-zeros (drop (labels_from s) words) s.depth (omega (arith, labels_long))
+        same = labels_of_zeros (drop (labels_from s) words) s.depth (omega (arith, labels_long))
             (λ i h. (label_open i (omega arith) h).0)
             (λ i h l. label_closed i (omega (arith, labels_long)) h);
       }

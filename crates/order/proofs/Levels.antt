@@ -11,7 +11,7 @@ use Rattle.order.specs.declared.Shape.{Shape}
 use Rattle.order.specs.declared.Place.{Place}
 use Rattle.order.specs.declared.Place.TheVariants.{Fine, At}
 use Rattle.order.specs.Order.{cell_right, word_right, first_from}
-use Rattle.order.proofs.Search.{at-cell}
+use Rattle.order.proofs.Search.{at_cell}
 
 abbrev pub level_place : Shape → ℕ → ℕ → ℕ
 level_place s r l = row_at s.allowed r + state_at l
@@ -23,7 +23,7 @@ level_search s words r l = first_from (word_right s words) (level_place s r l) 3
 module _ (s : Shape) (words : List ℕ) (w r l : ℕ) (e : w ≡ row_length s.allowed) (m : r < s.rows) (h : l ≤ s.allowed) where
   -- What a test says of the word at its place.
   said : (i at : ℕ) (b : Bool) → i ≡ row_at s.allowed r + at → at ≤ rejecting_at l → b ≡ cell_right s words r at → word_right s words i ≡ b
-  said i at b p q f = at-cell s words i r at p (omega arith) m ∙ sym f
+  said i at b p q f = at_cell s words i r at p (omega arith) m ∙ sym f
 
   place : (i at : ℕ) → i ≡ row_at s.allowed r + at → At (r * w + at) ≡ At i
   place i at p = rw e (ap At (sym p))

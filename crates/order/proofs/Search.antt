@@ -20,10 +20,10 @@ use Rattle.order.specs.Order.{cell_right, label_right, labels_from, word_right, 
 
 module _ (s : Shape) (words : List ℕ) where
   -- A place in a row is its row's place and the word's own in the row.
-  pub at-cell :
+  pub at_cell :
       (i r c : ℕ) → i ≡ r * row_length s.allowed + c → c < row_length s.allowed → r < s.rows →
       word_right s words i ≡ cell_right s words r c
-  at-cell i r c e h l =
+  at_cell i r c e h l =
       let inside : r * row_length s.allowed + row_length s.allowed ≤ s.rows * row_length s.allowed = row_fits s.rows r (row_length s.allowed) _ l (omega arith) in
       rw (e, lt-ltb (r * row_length s.allowed + c) (s.rows * row_length s.allowed) (omega (arith, inside)), digits_div r h, digits_mod r h)
 

@@ -39,10 +39,10 @@ under words (suc d) h some =
     take-suc words d 0 (omega arith) ∙ rw (at, back, under words d (omega arith) (λ i l. some i (omega arith)))
 
 -- Words above 0 up to d, and 0 from there on, are the labels' words of d open levels.
-pub labels-of-zeros :
+pub labels_of_zeros :
     (words : List ℕ) (d : ℕ) → d ≤ length words → ((i : ℕ) → i < d → 0 < get_or words i 0) →
     ((i : ℕ) → d ≤ i → i < length words → get_or words i 0 ≡ 0) → words ≡ labels_words (length words) (open_in words d)
-labels-of-zeros words d h some none =
+labels_of_zeros words d h some none =
     let o : List ℕ = open_in words d in
     let left : length words - d ≡ length words - length (open_words o) = omega (arith, open_words_length o, open_length words d) in
     sym (take-append-drop d words)

@@ -29,10 +29,10 @@ set_after_two p x y z ys a n e =
     ∙ append_assoc p (x ∷ y ∷ []) (a ∷ ys)
 
 -- Three words from n on, written in turn.
-set-three :
+set_three :
     (p : List ℕ) (x y z : ℕ) (ys : List ℕ) (a b c n : ℕ) → length p ≡ n →
     set (set (set (p ++ x ∷ y ∷ z ∷ ys) n a) (n + 1) b) (n + 2) c ≡ p ++ a ∷ b ∷ c ∷ ys
-set-three p x y z ys a b c n e =
+set_three p x y z ys a b c n e =
     ap (λ (l : List ℕ). set (set l (n + 1) b) (n + 2) c) (set_at p x (y ∷ z ∷ ys) a n e)
     ∙ ap (λ (l : List ℕ). set l (n + 2) c) (set_after_one p a y (z ∷ ys) b n e)
     ∙ set_after_two p a b z ys c n e
@@ -84,20 +84,20 @@ module _ (w : ℕ) (h : Held) where
 
     module _ (room : row_length (suc d) ≤ w) (l : Level) where
       -- The three words of the next level written in turn.
-      pub set-level :
+      pub set_level :
           set (set (set (row_words w h) (state_at (suc d)) l.state) (selecting_at (suc d)) l.selecting) (rejecting_at (suc d)) l.rejecting
           ≡ row_words w (with_level h l)
-      set-level =
+      set_level =
           let rest : List ℕ = replicate (w - row_length (suc (length h.row.below))) 0 in
           ap (λ (x : List ℕ). set (set (set x (state_at (suc d)) l.state) (selecting_at (suc d)) l.selecting) (rejecting_at (suc d)) l.rejecting) (row_room w h l (omega arith))
-          ∙ set-three (front (with_level h l)) 0 0 0 rest l.state l.selecting l.rejecting (state_at (suc d)) (front_length (with_level h l) ∙ omega arith)
+          ∙ set_three (front (with_level h l)) 0 0 0 rest l.state l.selecting l.rejecting (state_at (suc d)) (front_length (with_level h l) ∙ omega arith)
           ∙ sym (row_split w (with_level h l))
 
       -- The three words of the newest level made 0 in turn.
-      pub set-no-level :
+      pub set_no_level :
           set (set (set (row_words w (with_level h l)) (state_at (suc d)) 0) (selecting_at (suc d)) 0) (rejecting_at (suc d)) 0 ≡ row_words w h
-      set-no-level =
+      set_no_level =
           let rest : List ℕ = replicate (w - row_length (suc (length h.row.below))) 0 in
           ap (λ (x : List ℕ). set (set (set x (state_at (suc d)) 0) (selecting_at (suc d)) 0) (rejecting_at (suc d)) 0) (row_split w (with_level h l))
-          ∙ set-three (front (with_level h l)) l.state l.selecting l.rejecting rest 0 0 0 (state_at (suc d)) (front_length (with_level h l) ∙ omega arith)
+          ∙ set_three (front (with_level h l)) l.state l.selecting l.rejecting rest 0 0 0 (state_at (suc d)) (front_length (with_level h l) ∙ omega arith)
           ∙ sym (row_room w h l (omega arith))

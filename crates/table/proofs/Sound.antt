@@ -10,7 +10,7 @@ use borrow.Author.Tests.{eqb-true, ltb-true, not-true, not-false}
 use lib.Arith.{digits_lt}
 use Rattle.meaning.specs.Refusals.{FirstAt, applies_at, gives_at}
 use Rattle.meaning.proofs.Refusals
-use Rattle.meaning.proofs.Refusals.{given-exactly, first_gives, none_taken}
+use Rattle.meaning.proofs.Refusals.{given_exactly, first_gives, none_taken}
 use Rattle.meaning.specs.Table.{body_length, in_body, table_of}
 use Rattle.bodies.specs.Sound.{Sound, states_in, labels_in}
 use Rattle.table.specs.File.{header_right, length_right, body_limit, byte_right, body_right, bodies_right, by_contents, by_bodies}
@@ -56,13 +56,13 @@ pub taken_exactly : (f : List ℕ) → (number_of (reading_of f) ≡ 0) ↔ ((i 
 taken_exactly f = Refusals.taken_exactly number_of (Taken (states_in f) (labels_in f)) (lines f) tt
 
 -- A refusal is the first reason exactly when it is what its line gives, and its line is the first that applies.
-exactly-at :
+exactly_at :
     (f : List ℕ) (why given : Refusal) (i : ℕ) → i < 5 → gives_at (lines f) (Taken (states_in f) (labels_in f)) i ≡ Refused given →
     refusal_number given ≡ refusal_number why → (reading_of f ≡ Refused why) ↔ (FirstAt (lines f) i × (given ≡ why))
-exactly-at f why given i l gives number =
+exactly_at f why given i l gives number =
     let otherwise : Reading = Taken (states_in f) (labels_in f) in (
       λ e.
-          let h = (given-exactly number_of otherwise (lines f) tt i l).0 (ap number_of e ∙ sym number ∙ sym (ap number_of gives)) in
+          let h = (given_exactly number_of otherwise (lines f) tt i l).0 (ap number_of e ∙ sym number ∙ sym (ap number_of gives)) in
           let told : Refused given ≡ Refused why = sym gives ∙ sym (first_gives number_of otherwise (lines f) i h) ∙ e in
           let same : given ≡ why = cc in
           (h, same),
@@ -81,24 +81,24 @@ line_of (Body body byte) = 4
 -- one.
 pub refused_exactly : (f : List ℕ) (why : Refusal) → (reading_of f ≡ Refused why) ↔ (FirstAt (lines f) (line_of why) × Named f why)
 refused_exactly f Short =
-    let h = exactly-at f Short Short 0 (omega arith) refl refl in (λ e. ((h.0 e).0, tt), λ g. h.1 (g.0, refl))
+    let h = exactly_at f Short Short 0 (omega arith) refl refl in (λ e. ((h.0 e).0, tt), λ g. h.1 (g.0, refl))
 refused_exactly f Header =
-    let h = exactly-at f Header Header 1 (omega arith) refl refl in (λ e. ((h.0 e).0, tt), λ g. h.1 (g.0, refl))
+    let h = exactly_at f Header Header 1 (omega arith) refl refl in (λ e. ((h.0 e).0, tt), λ g. h.1 (g.0, refl))
 refused_exactly f (Contents entry x) =
-    let h = exactly-at f (Contents entry x) (by_contents f) 2 (omega arith) refl refl in
+    let h = exactly_at f (Contents entry x) (by_contents f) 2 (omega arith) refl refl in
     let first : FirstAt (lines f) 2 → Named f (by_contents f) = λ g. contents_named f (not-true _ g.applies) in
     (λ e. ((h.0 e).0, subst (Named f) (h.0 e).1 (first (h.0 e).0)), λ g. h.1 (g.0, one_field f (first g.0) g.1))
 refused_exactly f Length =
-    let h = exactly-at f Length Length 3 (omega arith) refl refl in (λ e. ((h.0 e).0, tt), λ g. h.1 (g.0, refl))
+    let h = exactly_at f Length Length 3 (omega arith) refl refl in (λ e. ((h.0 e).0, tt), λ g. h.1 (g.0, refl))
 refused_exactly f (Body body byte) =
-    let h = exactly-at f (Body body byte) (by_bodies f) 4 (omega arith) refl refl in
+    let h = exactly_at f (Body body byte) (by_bodies f) 4 (omega arith) refl refl in
     let first : FirstAt (lines f) 4 → Named f (by_bodies f) = λ g. bodies_named f (not-true _ g.applies) in
     (λ e. ((h.0 e).0, subst (Named f) (h.0 e).1 (first (h.0 e).0)), λ g. h.1 (g.0, one_byte f (first g.0) g.1))
 
 -- A file that is taken can be stepped by, and is taken with its own n and k.
-pub taken-is-sound :
+pub taken_is_sound :
     (f : List ℕ) (n k : ℕ) → reading_of f ≡ Taken n k → Sound f × (n ≡ (table_of f).states) × (k ≡ (table_of f).labels)
-taken-is-sound f n k e =
+taken_is_sound f n k e =
     let h : (i : ℕ) → applies_at (lines f) i ≡ false = (taken_exactly f).0 (ap number_of e) in
     let same : Taken n k ≡ Taken (states_in f) (labels_in f) = sym e ∙ none_taken number_of (Taken (states_in f) (labels_in f)) (lines f) h in
     (sound f (not-false _ (h 1)) (not-false _ (h 3)) (not-false _ (h 4)), cc, cc)

@@ -34,7 +34,7 @@ use Rattle.judge.specs.declared.Judged.TheVariants.{Fine, Refused}
 use Rattle.judge.specs.Judging.{refuses, judged_lines}
 use Rattle.judge.proofs.Following.{first_append}
 use Rattle.judge.proofs.Cleared.{not_fine}
-use Rattle.judge.proofs.Passed.{Passed, EventPassed, passed, event-passed}
+use Rattle.judge.proofs.Passed.{Passed, EventPassed, passed, event_passed}
 use Rattle.taking.proofs.Ready.{ready}
 use Rattle.taking.specs.Calls.{After, Ready, AccsIf, opens, is_open, step_of, stepped, taking, rows_lines, unless, answer_of, room_judged, room_answer, room_work, room_reports}
 use Rattle.taking.specs.Calls.{event_judged, event_after, event_answer, event_work, event_reports}
@@ -136,9 +136,9 @@ can_take f r event.End other p = absurd (miss (0 ∷ 1 ∷ 2 ∷ 3 ∷ 5 ∷ [])
 can_take f r event.Unknown other p = absurd p
 
 -- What is asked of an event, of the step that it is.
-pub asked-as :
+pub asked_as :
     {x y : Step} (d p : ℕ) → x ≡ y → Moves (event_of x) d × Counted (event_of x) p → Moves (event_of y) d × Counted (event_of y) p
-asked-as d p e h = subst (λ (z : Step). Moves (event_of z) d × Counted (event_of z) p) e h
+asked_as d p e h = subst (λ (z : Step). Moves (event_of z) d × Counted (event_of z) p) e h
 
 ---------------------------------------------------------------- the event call
 
@@ -171,13 +171,13 @@ module _ (f work : List ℕ) (r : Record) (reports : ℕ) (m : Event) (h : first
       × (Ready (states_in f) r work × ((Can (table_of f) (row_length r.allowed) r.depth (event_of (step_of m)) × Counted (event_of (step_of m)) r.positions) × (r.rows < reports)))
   step_ready other =
       let p = passed f work r reports m h in
-      (p.sound, (ready f work r reports p, (can_take f r m other (event-passed f work r reports m h), p.called.enough)))
+      (p.sound, (ready f work r reports p, (can_take f r m other (event_passed f work r reports m h), p.called.enough)))
 
   -- What `end` asks.
   pub end_ready : m ≡ event.End → Sound f × (Ready (states_in f) r work × ((r.depth ≡ 0) × (r.rows < reports)))
   end_ready b =
       let p = passed f work r reports m h in
-      (p.sound, (ready f work r reports p, (subst (EventPassed (labels_in f) r) b (event-passed f work r reports m h), p.called.enough)))
+      (p.sound, (ready f work r reports p, (subst (EventPassed (labels_in f) r) b (event_passed f work r reports m h), p.called.enough)))
 
 ---------------------------------------------------------------- an event that is taken
 

@@ -6,7 +6,7 @@ use mathlib.Core.List.{List}
 use lib.ListN.{set}
 use Rattle.meaning.specs.Masks.{acc_of}
 use Rattle.meaning.specs.Table.{table_of}
-use Rattle.meaning.proofs.Folds.{tabulate-more}
+use Rattle.meaning.proofs.Folds.{tabulate_more}
 use Rattle.bodies.proofs.Fits.{state_fits}
 use Rattle.closing.proofs.accs.Goals as goal
 
@@ -23,7 +23,7 @@ loop-q-preserved c =
     let t = table_of s.args.table.now in
     let fits = state_fits _ s.requires l.q (omega arith) in (
       omega arith,
-      ap (λ (xs : List ℕ). set xs l.q c.acc.result) l.invariant.1 ∙ tabulate-more 64 l.q c.acc.result (acc_of t s.args.trees) fits c.acc.ensures,
+      ap (λ (xs : List ℕ). set xs l.q c.acc.result) l.invariant.1 ∙ tabulate_more 64 l.q c.acc.result (acc_of t s.args.trees) fits c.acc.ensures,
     )
 
 pub returns : goal.returns

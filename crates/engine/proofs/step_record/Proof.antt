@@ -1,6 +1,6 @@
 -- `step_record` meets its contract.
 use borrow.Author.Rules.{rules}
-use Rattle.engine.proofs.Starting.{asked-as}
+use Rattle.engine.proofs.Starting.{asked_as}
 use Rattle.engine.proofs.step_record.Statement.{statement}
 use Rattle.engine.proofs.step_record.Tie as tie
 
@@ -10,12 +10,12 @@ enum_told c = search rules
 deeper-requires : tie.Need-deeper-requires
 deeper-requires c κs =
     let s = c.before.before in
-    (asked-as s.args.r.depth s.args.r.positions c.enum_told.given.1 s.requires).0
+    (asked_as s.args.r.depth s.args.r.positions c.enum_told.given.1 s.requires).0
 
 one-more-requires : tie.Need-one-more-requires
 one-more-requires c κs =
     let s = c.before.before.before in
-    rw c.deeper.ensures (asked-as s.args.r.depth s.args.r.positions c.before.enum_told.given.1 s.requires).1
+    rw c.deeper.ensures (asked_as s.args.r.depth s.args.r.positions c.before.enum_told.given.1 s.requires).1
 
 enum-told-2 : tie.Need-enum-told-2
 enum-told-2 c = search rules
@@ -23,7 +23,7 @@ enum-told-2 c = search rules
 one-more-requires-2 : tie.Need-one-more-requires-2
 one-more-requires-2 c κs =
     let s = c.before.before in
-    (asked-as s.args.r.depth s.args.r.positions c.enum-told2.given.1 s.requires).1
+    (asked_as s.args.r.depth s.args.r.positions c.enum-told2.given.1 s.requires).1
 
 enum-told-3 : tie.Need-enum-told-3
 enum-told-3 c = search rules
@@ -31,7 +31,7 @@ enum-told-3 c = search rules
 shallower-requires : tie.Need-shallower-requires
 shallower-requires c κs =
     let s = c.before.before in
-    (asked-as s.args.r.depth s.args.r.positions c.enum-told3.given.1 s.requires).0
+    (asked_as s.args.r.depth s.args.r.positions c.enum-told3.given.1 s.requires).0
 
 returns : tie.Need-returns
 returns c = rw (c.one_more.ensures, c.before.deeper.ensures, c.before.before.enum_told.given.1)

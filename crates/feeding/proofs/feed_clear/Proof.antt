@@ -9,7 +9,7 @@ use lib.ListN.{length}
 use Rattle.feeding.specs.declared.Fed.{Fed}
 use Rattle.feeding.specs.Feeding.{State, state_of, begun, fed_from}
 use Rattle.feeding.proofs.Opens.{accs_at}
-use Rattle.feeding.proofs.Blocks.{Reached, Done, done, reached_all, reached_stop, reached_next, reached-none}
+use Rattle.feeding.proofs.Blocks.{Reached, Done, done, reached_all, reached_stop, reached_next, reached_none}
 use Rattle.feeding.proofs.feed_clear.Statement.{statement}
 use Rattle.feeding.proofs.feed_clear.Tie as tie
 
@@ -43,7 +43,7 @@ begun-requires c κs = search rules
 loop-holds : tie.Need-loop-init invariant-loop decreases-loop
 loop-holds c =
     let a = (start c).args in
-    (refl, refl, refl, reached-none a.table.now a.r a.work.now a.reports.now a.counts.now a.block.now (start c).requires.0 c.begun.result c.begun.ensures)
+    (refl, refl, refl, reached_none a.table.now a.r a.work.now a.reports.now a.counts.now a.block.now (start c).requires.0 c.begun.result c.begun.ensures)
 
 shared-slice-read-turn : tie.Need-shared-slice-read-turn invariant-loop decreases-loop
 shared-slice-read-turn c = omega arith

@@ -11,7 +11,7 @@ use Rattle.meaning.specs.Table.{table_of}
 use Rattle.meaning.specs.Masks.{accs_over}
 use Rattle.judge.proofs.Passed.{StartPassed}
 use Rattle.taking.proofs.Parts.{whole_rest, rest_after}
-use Rattle.feeding.proofs.Starting.{refused-start, taken_start, passed_start}
+use Rattle.feeding.proofs.Starting.{refused_start, taken_start, passed_start}
 use Rattle.feeding.proofs.start.Statement.{statement}
 use Rattle.feeding.proofs.start.Tie as tie
 
@@ -31,7 +31,7 @@ returns : tie.Need-returns
 returns c =
     let j = c.before.before.before.before.before in
     let a = j.before.before.before.args in
-    let g = refused-start a.table.now a.rows a.depth a.work.now _ j.judge-start.ensures _ c.before.before.before.judged.given.1 in
+    let g = refused_start a.table.now a.rows a.depth a.work.now _ j.judge-start.ensures _ c.before.before.before.judged.given.1 in
     (c.refused.ensures ∙ rw c.before.none.ensures g.0, g.1)
 
 enum_told : tie.Need-enum-told

@@ -11,7 +11,7 @@ use Rattle.judge.proofs.Cleared.{clear_passed}
 use Rattle.taking.specs.Calls.{event_answer, event_work, event_reports}
 use Rattle.taking.proofs.Parts.{whole_rest, rest_put}
 use Rattle.feeding.specs.Feeding.{State, Going, state_of, fed_by, counts_by}
-use Rattle.feeding.proofs.Turns.{Leaves, no_count, no_reports, has_room_lem, turn_called, taken-few, rest_clear}
+use Rattle.feeding.proofs.Turns.{Leaves, no_count, no_reports, has_room_lem, turn_called, taken_few, rest_clear}
 use Rattle.feeding.proofs.turn.Statement.{statement}
 use Rattle.feeding.proofs.turn.Tie as tie
 
@@ -40,7 +40,7 @@ module _ (c : tie.After-take-byte) where
 
   few : (n : ℕ) → c.take-byte.result.outcome ≡ outcome.Taken n → n ≤ s.fed.next.rows + 1
   few n e =
-      taken-few f s.fed.next s.work (drop s.fed.told s.reports) start.args.byte (rest_clear f s start.pre.0 room)
+      taken_few f s.fed.next s.work (drop s.fed.told s.reports) start.args.byte (rest_clear f s start.pre.0 room)
       c.take-byte.result answers.0 n e
 
   -- What it then leaves, by its outcome.

@@ -7,7 +7,7 @@ use native.Mathlib.Omega.{arith}
 use borrow.Author.Rules.{rules}
 use borrow.Author.Tests.{not-true, not-false}
 use Rattle.judge.specs.Judging.{record_right}
-use Rattle.judge.proofs.Laws.{within, used_none, used_some, fault-words}
+use Rattle.judge.proofs.Laws.{within, used_none, used_some, fault_words}
 use Rattle.judge.proofs.fault.Statement.{statement}
 use Rattle.judge.proofs.fault.Tie as tie
 
@@ -40,7 +40,7 @@ returns-2 c =
     let d = c.before.before in
     let a = d.before.before.before.args in
     let used = c.before.if2.used in
-    fault-words a.r a.n a.k a.work.now used _ (right d)
+    fault_words a.r a.n a.k a.work.now used _ (right d)
     (⊎_elim (λ w. used_none a.r.finished used a.r.alive w.0.taken w.1)
     (λ w. used_some a.r.finished used a.r.alive w.0.left w.1)
     c.before.if2.branch)

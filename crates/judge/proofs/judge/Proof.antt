@@ -4,7 +4,7 @@ use mathlib.Core.Path.{sym, ◌∙◌}
 use borrow.Author.Rules.{rules}
 use Rattle.bodies.specs.Sound.{states_in, labels_in}
 use Rattle.judge.specs.Judging.{call_lines, event_lines, newest_word}
-use Rattle.judge.proofs.Following.{table-stands, call-stands, call_passes}
+use Rattle.judge.proofs.Following.{table_stands, call_stands, call_passes}
 use Rattle.judge.proofs.Passed.{call_passed}
 use Rattle.judge.proofs.judge.Statement.{statement}
 use Rattle.judge.proofs.judge.Tie as tie
@@ -41,7 +41,7 @@ returns c =
     let d = c.before.before.before in
     let a = d.before.before.before.args in
     let f = a.table.now in
-    table-stands f (call_lines (states_in f) (labels_in f) a.r a.work.now a.reports ++ event_lines (labels_in f) a.r (newest_word a.r a.work.now) a.event) _
+    table_stands f (call_lines (states_in f) (labels_in f) a.r a.work.now a.reports ++ event_lines (labels_in f) a.r (newest_word a.r a.work.now) a.event) _
     (sym d.read.ensures ∙ c.before.reading.given.1)
 
 returns-2 : tie.Need-returns-2
@@ -51,7 +51,7 @@ returns-2 c =
     let g = t.reading2.given in
     let d = t.before.before in
     let a = d.before.before.before.args in
-    call-stands a.table.now a.r a.work.now a.reports a.event g.0.0 g.0.1.0 (sym d.read.ensures ∙ g.1) _
+    call_stands a.table.now a.r a.work.now a.reports a.event g.0.0 g.0.1.0 (sym d.read.ensures ∙ g.1) _
     _ j.judge-call.ensures c.enum_told.given.1
 
 returns-3 : tie.Need-returns-3

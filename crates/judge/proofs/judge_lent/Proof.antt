@@ -4,10 +4,10 @@ use Prim.Native.Nat.{ℕ}
 use borrow.Author.Rules.{rules}
 use Rattle.meaning.specs.Refusals.{first_of}
 use Rattle.bodies.specs.Sound.{states_in, labels_in}
-use Rattle.table.proofs.Sound.{taken-is-sound}
+use Rattle.table.proofs.Sound.{taken_is_sound}
 use Rattle.judge.specs.Judging.{call_lines}
 use Rattle.judge.specs.declared.Judged.TheVariants.{Fine}
-use Rattle.judge.proofs.Following.{table-stands, table-passes}
+use Rattle.judge.proofs.Following.{table_stands, table_passes}
 use Rattle.judge.proofs.judge_lent.Statement.{statement}
 use Rattle.judge.proofs.judge_lent.Tie as tie
 
@@ -28,7 +28,7 @@ returns c =
     let d = c.before.before.before in
     let a = d.before.before.before.args in
     let f = a.table.now in
-    table-stands f (call_lines (states_in f) (labels_in f) a.r a.work.now a.reports) _ (sym d.read.ensures ∙ c.before.reading.given.1)
+    table_stands f (call_lines (states_in f) (labels_in f) a.r a.work.now a.reports) _ (sym d.read.ensures ∙ c.before.reading.given.1)
 
 returns-2 : tie.Need-returns-2
 returns-2 c =
@@ -38,10 +38,10 @@ returns-2 c =
     let a = d.before.before.before.args in
     let f = a.table.now in
     let read = sym d.read.ensures ∙ g.1 in
-    let s = taken-is-sound f g.0.0 g.0.1.0 read in
+    let s = taken_is_sound f g.0.0 g.0.1.0 read in
     c.judge-call.ensures
     ∙ ap₂ (λ (y z : ℕ). first_of (call_lines y z a.r a.work.now a.reports) Fine) s.1 s.2
-    ∙ sym (table-passes f (call_lines (states_in f) (labels_in f) a.r a.work.now a.reports) g.0.0 g.0.1.0 read)
+    ∙ sym (table_passes f (call_lines (states_in f) (labels_in f) a.r a.work.now a.reports) g.0.0 g.0.1.0 read)
 
 pub judge-lent-spec : {M : Type 1} → statement M
 judge-lent-spec =

@@ -7,7 +7,7 @@ use Rattle.meaning.specs.Refusals.{first_of}
 use Rattle.answers.specs.declared.Refusal.TheVariants.{Sizes}
 use Rattle.judge.specs.Judging.{refuses, sizes_right, start_lines}
 use Rattle.judge.specs.declared.Judged.TheVariants as judged
-use Rattle.judge.proofs.Following.{table-stands, start-judged}
+use Rattle.judge.proofs.Following.{table_stands, start_judged_lem}
 use Rattle.judge.proofs.judge_start.Statement.{statement}
 use Rattle.judge.proofs.judge_start.Tie as tie
 
@@ -27,7 +27,7 @@ returns : tie.Need-returns
 returns c =
     let d = c.before.before.before in
     let a = d.before.before.args in
-    table-stands a.table.now (refuses (not (sizes_right a.rows a.allowed a.size)) Sizes ∷ []) _
+    table_stands a.table.now (refuses (not (sizes_right a.rows a.allowed a.size)) Sizes ∷ []) _
     (sym d.read.ensures ∙ c.before.reading.given.1)
 
 -- a file that is taken leaves the sizes
@@ -37,7 +37,7 @@ taken c b e =
     let g = c.before.enum_told.given in
     let d = c.before.before.before in
     let a = d.before.before.args in
-    start-judged a.table.now a.rows a.allowed a.size g.0.0 g.0.1.0 (sym d.read.ensures ∙ g.1) b
+    start_judged_lem a.table.now a.rows a.allowed a.size g.0.0 g.0.1.0 (sym d.read.ensures ∙ g.1) b
     (sym c.sizes-right.ensures ∙ e)
 
 returns-2 : tie.Need-returns-2

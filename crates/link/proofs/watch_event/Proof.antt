@@ -4,7 +4,7 @@ use mathlib.Core.Path.{◌≡◌}
 use borrow.Author.Rules.{rules}
 use lib.ListN.{length}
 use Rattle.link.specs.Linked.{fitting}
-use Rattle.link.proofs.Calling.{misfit, fit, fit_lengths, event_misfit, event-fit}
+use Rattle.link.proofs.Calling.{misfit, fit, fit_lengths, event_misfit, event_fit}
 use Rattle.link.proofs.watch_event.Statement.{statement}
 use Rattle.link.proofs.watch_event.Tie as tie
 
@@ -66,7 +66,7 @@ returns-2 c =
     let s = c.before.before.before.before.before.before.before.before.before.before.before.before.before.before.before.before.before.before in
     let a = s.before.before.before.before.before.before.before.before.before.args in
     let x = c.before.before.before.before.before.before.before.before.before.before.before.before.before.event in
-    event-fit a.table.now a.«record».now a.work.now a.reports.now a.byte a.answer.now (fitted s) _
+    event_fit a.table.now a.«record».now a.work.now a.reports.now a.byte a.answer.now (fitted s) _
     c.before.before.before.before.before.before.before.before.before.before.before.before.before.before.before.before.record-in.ensures
     _ x.ensures.0
     _ _ _ _ _

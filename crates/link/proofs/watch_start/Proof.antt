@@ -4,7 +4,7 @@ use mathlib.Core.Path.{◌≡◌}
 use borrow.Author.Rules.{rules}
 use lib.ListN.{length}
 use Rattle.link.specs.Linked.{fitting}
-use Rattle.link.proofs.Calling.{misfit, fit, fit_lengths, start_misfit, start-fit}
+use Rattle.link.proofs.Calling.{misfit, fit, fit_lengths, start_misfit, start_fit}
 use Rattle.link.proofs.watch_start.Statement.{statement}
 use Rattle.link.proofs.watch_start.Tie as tie
 
@@ -60,7 +60,7 @@ returns-2 c =
     let s = c.before.before.before.before.before.before.before.before.before.before.before.before.before in
     let a = s.before.before.before.before.before.before.before.before.args in
     let x = c.before.before.before.before.before.before.before.before.before.before.before.start in
-    start-fit a.table.now a.rows a.depth a.work.now a.«record».now a.answer.now (fitted s) _ x.ensures.0
+    start_fit a.table.now a.rows a.depth a.work.now a.«record».now a.answer.now (fitted s) _ x.ensures.0
     _ _ _ _
     c.number.ensures
     x.ensures.1

@@ -10,7 +10,7 @@ use Rattle.meaning.specs.Table.{table_of}
 use Rattle.meaning.specs.Rows.{mark_row}
 use Rattle.places.specs.Memory.{Held, row_in}
 use Rattle.places.proofs.Rows.{next_row, past_first, part_length, put_length}
-use Rattle.memory.proofs.Turns.{copied_length, copied_row, copied-end}
+use Rattle.memory.proofs.Turns.{copied_length, copied_row, copied_end}
 use Rattle.memory.proofs.add_row.Statement.{statement}
 use Rattle.memory.proofs.add_row.Tie as tie
 
@@ -76,7 +76,7 @@ returns c =
     let last = k.before.before.copy-words.new.0 in
     let e = add-sub_cancel_left (a.r * a.w) a.w in
     let f : List ℕ → Held = λ row. record { position = a.position; row = mark_row (table_of a.table.now) (row_in a.d row) } in
-    rw e (copied-end a.w a.r a.words.now last (fits s) k.before.before.copy-words.ensures f g.new.0 (rw e at g.ensures))
+    rw e (copied_end a.w a.r a.words.now last (fits s) k.before.before.copy-words.ensures f g.new.0 (rw e at g.ensures))
 
 pub add-row-spec : {M : Type 1} → statement M
 add-row-spec =

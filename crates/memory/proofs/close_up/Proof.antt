@@ -12,7 +12,7 @@ use Rattle.places.specs.Places.{row_of}
 use Rattle.places.specs.Memory.{row_in}
 use Rattle.rows.specs.Steps.{is_decided}
 use Rattle.places.proofs.Rows.{row_fits, part_length, put_length}
-use Rattle.memory.proofs.Turns.{Closed, closed_start, closed_yes, closed_no, closed-end, copied_onto, row_in_lem, row_words_lem}
+use Rattle.memory.proofs.Turns.{Closed, closed_start, closed_yes, closed_no, closed_end, copied_onto, row_in_lem, row_words_lem}
 use Rattle.memory.proofs.close_up.Statement.{statement}
 use Rattle.memory.proofs.close_up.Tie as tie
 
@@ -162,7 +162,7 @@ returns c =
     let g = c.before.before.clear in
     let q : l.r ≡ a.n = omega (arith, l.invariant.r_max) in
     let i = rw q at l.invariant in
-    (i.count, rw (g.ensures, part_length l.words (l.left * a.w) (a.n * a.w - l.left * a.w) (whole e)) (closed-end a.w a.d a.n a.words.now s.requires.0.fits l.words l.left i))
+    (i.count, rw (g.ensures, part_length l.words (l.left * a.w) (a.n * a.w - l.left * a.w) (whole e)) (closed_end a.w a.d a.n a.words.now s.requires.0.fits l.words l.left i))
 
 pub close-up-spec : {M : Type 1} → statement M
 close-up-spec =

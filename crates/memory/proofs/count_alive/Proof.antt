@@ -12,7 +12,7 @@ use Rattle.places.specs.Memory.{Held, row_in, helds_in}
 use Rattle.rows.specs.Steps.{event_of, step_row, on_row, is_decided}
 use Rattle.reports.specs.Reports.{left_over}
 use Rattle.places.proofs.Rows.{each_map, row_fits}
-use Rattle.memory.proofs.Turns.{Counted, counted_start, counted_yes, counted_no, row_in_lem, row-can}
+use Rattle.memory.proofs.Turns.{Counted, counted_start, counted_yes, counted_no, row_in_lem, row_can}
 use Rattle.memory.proofs.count_alive.Statement.{statement}
 use Rattle.memory.proofs.count_alive.Tie as tie
 
@@ -65,7 +65,7 @@ stays-after-requires c κs =
       s.requires.0,
       (
         row_in_lem t.states s.args.w s.args.d s.args.n l.r words words s.requires.1.0 i.loop-test.true refl,
-        row-can s.args.w s.args.d l.r words (inside i) t (event_of s.args.step) s.requires.1.1.1,
+        row_can s.args.w s.args.d l.r words (inside i) t (event_of s.args.step) s.requires.1.1.1,
       ),
     )
 

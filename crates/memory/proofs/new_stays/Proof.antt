@@ -2,7 +2,7 @@
 use Rattle.meaning.specs.Table.{table_of}
 use Rattle.places.specs.Memory.{row_in}
 use Rattle.rows.specs.Steps.{event_of}
-use Rattle.memory.proofs.Turns.{next_in_as, mark_in_as, new-stays-as}
+use Rattle.memory.proofs.Turns.{next_in_as, mark_in_as, new_stays_as}
 use borrow.Author.Rules.{rules}
 use Rattle.memory.proofs.new_stays.Statement.{statement}
 use Rattle.memory.proofs.new_stays.Tie as tie
@@ -32,7 +32,7 @@ stays-requires c κs =
 returns : tie.Need-returns
 returns c =
     let a = c.before.before.before.before.before.args in
-    new-stays-as (table_of a.table.now) a.accs.now (event_of a.step) (row_in a.d a.row.now) _ _ _ c.before.before.next-state.ensures c.before.mark.ensures c.stays.ensures
+    new_stays_as (table_of a.table.now) a.accs.now (event_of a.step) (row_in a.d a.row.now) _ _ _ c.before.before.next-state.ensures c.before.mark.ensures c.stays.ensures
 
 pub new-stays-spec : {M : Type 1} → statement M
 new-stays-spec = tie.close (tie.spec next-state-requires mark-requires stays-requires returns)

@@ -9,7 +9,7 @@ use Rattle.meaning.specs.Table.{table_of}
 use Rattle.places.specs.Memory.{Held, helds_in, row_words}
 use Rattle.rows.specs.Steps.{event_of, step_row, on_row}
 use Rattle.places.proofs.Rows.{each_map, row_fits, part_length}
-use Rattle.memory.proofs.Turns.{Stepped, stepped_start, stepped_rest, stepped-next, row_in_lem, row-can}
+use Rattle.memory.proofs.Turns.{Stepped, stepped_start, stepped_rest, stepped_next, row_in_lem, row_can}
 use Rattle.memory.proofs.step_rows.Statement.{statement}
 use Rattle.memory.proofs.step_rows.Tie as tie
 
@@ -57,7 +57,7 @@ step-row-requires c κs =
       s.requires.0,
       (
         row_in_lem t.states s.args.w s.args.d s.args.n l.r l.words s.args.words.now s.requires.1.0 i.loop-test.true (rest i),
-        row-can s.args.w s.args.d l.r l.words (inside i) t (event_of s.args.step) s.requires.1.1.1,
+        row_can s.args.w s.args.d l.r l.words (inside i) t (event_of s.args.step) s.requires.1.1.1,
       ),
     )
 
@@ -77,7 +77,7 @@ loop-again c =
     let size = part_length l.words (l.r * s.args.w) s.args.w (inside i) in
     let long = (rw k at g.auto.0) ∙ size in
     let told = rw (k, size, rest i) at g.ensures in
-    rw k (stepped-next _ s.args.w s.args.d s.args.n s.args.words.now l.words l.r l.invariant i.loop-test.true (inside i) g.new.0 told long)
+    rw k (stepped_next _ s.args.w s.args.d s.args.n s.args.words.now l.words l.r l.invariant i.loop-test.true (inside i) g.new.0 told long)
 
 same_length : tie.Need-same-length invariant-loop decreases-loop
 same_length c = c.before.loop.invariant.len

@@ -15,7 +15,7 @@ use Rattle.order.specs.Order.{word_right, labels_from}
 use Rattle.order.proofs.Cells.{row_fits}
 use Rattle.places.proofs.Rows.{next_row}
 use Rattle.order.proofs.Levels.{level_place, level_search}
-use Rattle.order.proofs.Search.{at-cell, rest_fine, rest_fault}
+use Rattle.order.proofs.Search.{at_cell, rest_fine, rest_fault}
 use Rattle.order.proofs.rows_fault.Statement.{statement}
 use Rattle.order.proofs.rows_fault.Tie as tie
 
@@ -59,7 +59,7 @@ said : (c : tie.After-cell-right invariant-loop decreases-loop invariant-rows de
 said c =
     let s = c.before.before.before.before.before in
     let r = c.before.before.rows.r in
-    at-cell s.args.s s.args.words.now (row_at s.args.s.allowed r) r 0 (omega arith) (omega arith) c.before.rows-test.true ∙ sym c.cell-right.ensures
+    at_cell s.args.s s.args.words.now (row_at s.args.s.allowed r) r 0 (omega arith) (omega arith) c.before.rows-test.true ∙ sym c.cell-right.ensures
 
 level-said : (c : tie.After-level-fault invariant-loop decreases-loop invariant-rows decreases-rows) (p : Place) → c.level-fault.result ≡ p →
     let l = c.before.before.loop in

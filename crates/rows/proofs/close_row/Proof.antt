@@ -2,7 +2,7 @@
 use native.Mathlib.Omega.{arith}
 use lib.ListN.{length-set}
 use Rattle.meaning.specs.Table.{table_of}
-use Rattle.rows.proofs.Laws.{state_in, close-words}
+use Rattle.rows.proofs.Laws.{state_in, close_words}
 use borrow.Author.Rules.{rules}
 use Rattle.rows.proofs.close_row.Statement.{statement}
 use Rattle.rows.proofs.close_row.Tie as tie
@@ -71,7 +71,7 @@ same_length c = search rules
 returns : tie.Need-returns
 returns c =
     let s = c.before.before.before.before.before.before.before.before.before in
-    close-words (table_of s.args.table.now) _ _ s.requires.1.0.same s.requires.1.0.deep s.requires.1.1 _ _ _ _ _
+    close_words (table_of s.args.table.now) _ _ s.requires.1.0.same s.requires.1.0.deep s.requires.1.1 _ _ _ _ _
     c.before.before.before.before.before.before.state-at.ensures
     c.before.before.before.before.before.state-at2.ensures
     c.before.selecting-at.ensures

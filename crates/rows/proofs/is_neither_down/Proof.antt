@@ -51,14 +51,14 @@ returns c =
     let s = c.before.before.before.before.before.before.before.before.before.before.before.before in
     let a = c.before.before.before.before.before.before.before.acc-of in
     let holds = down_holds (table_of s.args.table.now) s.requires.0.formed.few_states s.args.accs.now s.args.row.now s.args.s s.requires.1.1 _ _ _ a.ensures a.type-inv c.before.before.before.before.before.before.before.before.before.state-at.ensures in
-    neither_both (holds _ _ _ c.before.before.before.before.before.before.selecting-at.ensures c.before.before.before.before.in-down.ensures) (holds _ _ _ c.before.before.rejecting-at.ensures c.in-down2.ensures) c.before.before.before.if1.true
+    neither_both (holds _ _ _ c.before.before.before.before.before.before.selecting-at.ensures c.before.before.before.before.in_down_lem.ensures) (holds _ _ _ c.before.before.rejecting-at.ensures c.in-down2.ensures) c.before.before.before.if1.true
 
 returns-2 : tie.Need-returns-2
 returns-2 c =
     let s = c.before.before.before.before.before.before.before.before.before in
     let a = c.before.before.before.before.acc-of in
     let holds = down_holds (table_of s.args.table.now) s.requires.0.formed.few_states s.args.accs.now s.args.row.now s.args.s s.requires.1.1 _ _ _ a.ensures a.type-inv c.before.before.before.before.before.before.state-at.ensures in
-    neither_first (holds _ _ _ c.before.before.before.selecting-at.ensures c.before.in-down.ensures) _ c.if1.false
+    neither_first (holds _ _ _ c.before.before.before.selecting-at.ensures c.before.in_down_lem.ensures) _ c.if1.false
 
 pub is-neither-down-spec : {M : Type 1} → statement M
 is-neither-down-spec =

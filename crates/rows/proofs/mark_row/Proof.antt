@@ -2,7 +2,7 @@
 use native.Mathlib.Omega.{arith}
 use lib.ListN.{length-set}
 use Rattle.meaning.specs.Table.{table_of}
-use Rattle.rows.proofs.Laws.{marked_in, mark-words}
+use Rattle.rows.proofs.Laws.{marked_in, mark_words}
 use borrow.Author.Rules.{rules}
 use Rattle.rows.proofs.mark_row.Statement.{statement}
 use Rattle.rows.proofs.mark_row.Tie as tie
@@ -36,7 +36,7 @@ same_length c = search rules
 returns : tie.Need-returns
 returns c =
     let s = c.before.before.before.before.before in
-    mark-words (table_of s.args.table.now) _ _ _ s.requires.1 _ _ _ c.before.before.state-at.ensures c.mark.ensures
+    mark_words (table_of s.args.table.now) _ _ _ s.requires.1 _ _ _ c.before.before.state-at.ensures c.mark.ensures
 
 pub mark-row-spec : {M : Type 1} → statement M
 mark-row-spec =

@@ -2,7 +2,7 @@
 use native.Mathlib.Omega.{arith}
 use lib.ListN.{length}
 use Rattle.meaning.specs.Table.{table_of}
-use Rattle.rows.proofs.Laws.{can_as, state_in, point-state, close-state}
+use Rattle.rows.proofs.Laws.{can_as, state_in, point_state, close_state}
 use borrow.Author.Rules.{rules}
 use Rattle.rows.proofs.next_state.Statement.{statement}
 use Rattle.rows.proofs.next_state.Tie as tie
@@ -64,13 +64,13 @@ returns c =
 returns-2 : tie.Need-returns-2
 returns-2 c =
     let s = c.before.before.before.before.before.before.before.before in
-    rw c.before.before.step2.given.1 (point-state (table_of s.args.table.now) s.args.row.now s.args.d _ _ _ c.before.before.before.before.before.state-at.ensures c.point.ensures)
+    rw c.before.before.step2.given.1 (point_state (table_of s.args.table.now) s.args.row.now s.args.d _ _ _ c.before.before.before.before.before.state-at.ensures c.point.ensures)
 
 returns-3 : tie.Need-returns-3
 returns-3 c =
     let s = c.before.before.before.before.before.before.before.before.before in
     rw c.before.before.before.enum_told.given.1
-    (close-state (table_of s.args.table.now) s.args.row.now s.args.d
+    (close_state (table_of s.args.table.now) s.args.row.now s.args.d
     (can_as (table_of s.args.table.now) (length s.args.row.now) s.args.d c.before.before.before.enum_told.given.1 s.requires.1.1)
     _ _ _ c.before.before.state-at2.ensures c.before.before.before.before.before.before.state-at.ensures c.apply.ensures)
 

@@ -2,7 +2,7 @@
 use native.Mathlib.Omega.{arith}
 use lib.ListN.{length-set}
 use Rattle.meaning.specs.Table.{table_of}
-use Rattle.rows.proofs.Laws.{state_in, open-words}
+use Rattle.rows.proofs.Laws.{state_in, open_words_lem}
 use borrow.Author.Rules.{rules}
 use Rattle.rows.proofs.open_row.Statement.{statement}
 use Rattle.rows.proofs.open_row.Tie as tie
@@ -89,7 +89,7 @@ same_length c = search rules
 returns : tie.Need-returns
 returns c =
     let s = c.before.before.before.before.before.before.before.before.before.before.before.before.before.before in
-    open-words (table_of s.args.table.now) _ _ _ s.requires.1.0 s.args.accs.now _ s.requires.1.1.1 _ _ _ _ _ _ _ _ _
+    open_words_lem (table_of s.args.table.now) _ _ _ s.requires.1.0 s.args.accs.now _ s.requires.1.1.1 _ _ _ _ _ _ _ _ _
     c.before.before.before.before.before.before.before.before.before.before.before.state-at.ensures
     c.before.before.before.before.before.before.before.before.before.selecting-at.ensures
     c.before.before.before.before.before.before.rejecting-at.ensures

@@ -1,7 +1,7 @@
 -- `point_row` meets its contract. Assumes nothing.
 use native.Mathlib.Omega.{arith}
 use Rattle.meaning.specs.Table.{table_of}
-use Rattle.rows.proofs.Laws.{state_in, point-words}
+use Rattle.rows.proofs.Laws.{state_in, point_words}
 use borrow.Author.Rules.{rules}
 use Rattle.rows.proofs.point_row.Statement.{statement}
 use Rattle.rows.proofs.point_row.Tie as tie
@@ -32,7 +32,7 @@ same_length c = search rules
 returns : tie.Need-returns
 returns c =
     let s = c.before.before.before.before.before in
-    point-words (table_of s.args.table.now) _ _ _ s.requires.1.0 _ _ _ c.before.before.state-at.ensures c.point.ensures
+    point_words (table_of s.args.table.now) _ _ _ s.requires.1.0 _ _ _ c.before.before.state-at.ensures c.point.ensures
 
 pub point-row-spec : {M : Type 1} → statement M
 point-row-spec =

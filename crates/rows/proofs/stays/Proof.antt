@@ -2,7 +2,7 @@
 use mathlib.Core.Path.{◌∙◌}
 use lib.ListN.{length}
 use Rattle.meaning.specs.Table.{table_of}
-use Rattle.rows.proofs.Laws.{can_as, close-sets}
+use Rattle.rows.proofs.Laws.{can_as, close_sets}
 use borrow.Author.Rules.{rules}
 use Rattle.rows.proofs.stays.Statement.{statement}
 use Rattle.rows.proofs.stays.Tie as tie
@@ -41,7 +41,7 @@ returns-3 c =
     let s = c.before.before.before.before.before in
     rw c.before.enum-told3.given.1
     (c.is-neither2.ensures
-    ∙ close-sets (table_of s.args.table.now) s.args.row.now s.args.d (can_as (table_of s.args.table.now) (length s.args.row.now) s.args.d c.before.enum-told3.given.1 s.requires.1.1.0) s.args.s)
+    ∙ close_sets (table_of s.args.table.now) s.args.row.now s.args.d (can_as (table_of s.args.table.now) (length s.args.row.now) s.args.d c.before.enum-told3.given.1 s.requires.1.1.0) s.args.s)
 
 pub stays-spec : {M : Type 1} → statement M
 stays-spec =

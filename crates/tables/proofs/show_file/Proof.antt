@@ -2,7 +2,7 @@
 use mathlib.Core.Path.{sym, ◌∙◌}
 use native.Mathlib.Omega.{arith}
 use borrow.Author.Rules.{rules}
-use Rattle.table.proofs.Sound.{taken-is-sound}
+use Rattle.table.proofs.Sound.{taken_is_sound}
 use Rattle.tables.proofs.show_file.Statement.{statement}
 use Rattle.tables.proofs.show_file.Tie as tie
 
@@ -15,7 +15,7 @@ enum-known-n c = search rules
 show-requires : tie.Need-show-requires
 show-requires c κs =
     let g = c.before.before.n.given in
-    let s = taken-is-sound _ g.0.0 g.0.1.0 (sym c.before.before.before.before.read.ensures ∙ g.1) in
+    let s = taken_is_sound _ g.0.0 g.0.1.0 (sym c.before.before.before.before.read.ensures ∙ g.1) in
     (s.0, omega (arith, s.1, c.if1.true))
 
 enum_told : tie.Need-enum-told

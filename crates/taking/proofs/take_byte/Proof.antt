@@ -13,8 +13,8 @@ use Rattle.answers.specs.Bytes.{meaning_of}
 use Rattle.judge.specs.declared.Judged.{Judged}
 use Rattle.judge.specs.declared.Judged.TheVariants.{Fine}
 use Rattle.judge.specs.Judging.{event_lines, judged_lines, newest_word}
-use Rattle.judge.proofs.Cleared.{clear-judged, clear_passed}
-use Rattle.judge.proofs.Passed.{event-passed}
+use Rattle.judge.proofs.Cleared.{clear_judged, clear_passed}
+use Rattle.judge.proofs.Passed.{event_passed}
 use Rattle.taking.specs.Calls.{AccsIf, opens, step_of, taking}
 use Rattle.taking.proofs.Taking.{NoEnd, event_refused, event_by, taking_step, step_opens, step_ready, end_ready}
 use Rattle.taking.proofs.take_byte.Statement.{statement}
@@ -28,15 +28,15 @@ module _ (c : tie.After-judge-event) where
   abbrev means : Event
   means = meaning_of start.args.byte
 
-  event-is : c.before.before.before.event-of.result ≡ means
-  event-is = c.before.before.before.event-of.ensures
+  event_is : c.before.before.before.event-of.result ≡ means
+  event_is = c.before.before.before.event-of.ensures
 
   told : (j : Judged) → c.judge-event.result ≡ j → let a = start.args in first_of (judged_lines a.table.now a.r a.work.now (length a.reports.now) means) Fine ≡ j
   told j e =
       let a = start.args in
       let x : ℕ = newest_word a.r a.work.now in
-      sym (clear-judged a.table.now a.r a.work.now (length a.reports.now) start.pre.0 means)
-      ∙ ap₂ (λ (k : ℕ) (e : Event). first_of (event_lines k a.r x e) Fine) (sym c.before.before.labels.ensures) (sym event-is)
+      sym (clear_judged a.table.now a.r a.work.now (length a.reports.now) start.pre.0 means)
+      ∙ ap₂ (λ (k : ℕ) (e : Event). first_of (event_lines k a.r x e) Fine) (sym c.before.before.labels.ensures) (sym event_is)
       ∙ sym c.judge-event.ensures ∙ e
 
 event-of-requires : tie.Need-event-of-requires
@@ -81,7 +81,7 @@ end-requires : tie.Need-end-requires
 end-requires c κs =
     let k = c.before.before.before.before.before.before in
     let a = (start k).args in
-    end_ready a.table.now a.work.now a.r (length a.reports.now) (means k) (told k Fine c.before.before.before.before.enum_told.given.1) (sym (event-is k) ∙ c.before.before.enum-told2.given.1)
+    end_ready a.table.now a.work.now a.r (length a.reports.now) (means k) (told k Fine c.before.before.before.before.enum_told.given.1) (sym (event_is k) ∙ c.before.before.enum-told2.given.1)
 
 same-length-2 : tie.Need-same-length-2
 same-length-2 c = search rules
@@ -94,7 +94,7 @@ returns-2 c =
     let e = c.before.before.before.before in
     let k = e.before.before.before.before.before.before.before in
     let a = (start k).args in
-    event_by a.table.now a.r a.work.now a.reports.now a.byte _ (ap (taking (table_of a.table.now) a.r a.work.now) (sym e.before.before.before.enum-told2.given.1 ∙ event-is k)) (told k Fine e.before.before.before.before.before.enum_told.given.1) _ _ _ e.end.ensures
+    event_by a.table.now a.r a.work.now a.reports.now a.byte _ (ap (taking (table_of a.table.now) a.r a.work.now) (sym e.before.before.before.enum-told2.given.1 ∙ event_is k)) (told k Fine e.before.before.before.before.before.enum_told.given.1) _ _ _ e.end.ensures
 
 step-of-requires : tie.Need-step-of-requires
 step-of-requires c κs = search rules
@@ -108,10 +108,10 @@ module _ (c : tie.After-step-of) where
   passes = told judged Fine c.before.before.before.before.enum_told.given.1
 
   no_end : NoEnd (means judged)
-  no_end = subst NoEnd (event-is judged) c.before.before.before.match2.keys2
+  no_end = subst NoEnd (event_is judged) c.before.before.before.match2.keys2
 
   step_is : c.step_of_lem.result ≡ step_of (means judged)
-  step_is = c.step_of_lem.ensures ∙ ap step_of (event-is judged)
+  step_is = c.step_of_lem.ensures ∙ ap step_of (event_is judged)
 
 step-requires : tie.Need-step-requires
 step-requires c κs =
@@ -134,7 +134,7 @@ returns-3 c =
     let k = judged s in
     let a = (start k).args in
     let f = a.table.now in
-    let is = taking_step (table_of f) a.r a.work.now (labels_in f) (means k) (no_end s) (event-passed f a.work.now a.r (length a.reports.now) (means k) (passes s)) in
+    let is = taking_step (table_of f) a.r a.work.now (labels_in f) (means k) (no_end s) (event_passed f a.work.now a.r (length a.reports.now) (means k) (passes s)) in
     event_by f a.r a.work.now a.reports.now a.byte _ is (passes s) _ _ _ (rw (step_is s) at c.before.before.before.before.step.ensures)
 
 pub take-byte-spec : {M : Type 1} → statement M
