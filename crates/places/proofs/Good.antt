@@ -11,7 +11,7 @@ use lib.ListN.{length, get_or, take, drop, replicate, length-append, length-drop
 use lib.Seq.{get_or_at, take_at, drop_at, drop-drop, take-add}
 use Rattle.meaning.specs.Rows.{Level}
 use Rattle.places.specs.Places.{state_at, row_length, row_of}
-use Rattle.places.specs.Memory.{Held, levels_words, row_words, each, all_words, level_in, below_in, held_in, helds_in, RowIn, RowsIn}
+use Rattle.places.specs.Memory.{Held, levels_words, row_words, all_words, level_in, below_in, held_in, helds_in, RowIn, RowsIn}
 use Rattle.places.proofs.Words.{levels_length, front, front_length, row_split, row_length_lem}
 use Rattle.places.proofs.Sets.{below_length}
 use Rattle.places.proofs.Rows.{each_next, part_length}

@@ -1,5 +1,5 @@
 -- The labels' words: how many, which labels they stand for, and what an open and a close make of them. Assumes nothing.
-use mathlib.Core.Path.{◌≡◌, refl, sym, ap, ◌∙◌}
+use mathlib.Core.Path.{◌≡◌, refl, sym, ap, ap₂, ◌∙◌}
 use mathlib.Core.List.{List, [], ◌∷◌, ◌++◌, append_assoc}
 use Prim.Native.Nat.{ℕ, zero, suc, ◌+◌, ◌-◌, ◌<◌, ◌≤◌}
 use native.Mathlib.Omega.{arith}
@@ -28,7 +28,11 @@ open_back [] rest = refl
 open_back (a ∷ o) rest =
     let at : label_at (suc (length o)) ≡ length (open_words o) = omega (arith, open_words_length o) in
     let a_back : label_in (suc a) ≡ a = omega arith in
-    rw (append_assoc (open_words o) (suc a ∷ []) rest, at, get_or-append_seam (open_words o) (suc a) rest 0, a_back, open_back o (suc a ∷ rest))
+    let words : List ℕ = (open_words o ++ (suc a ∷ [])) ++ rest in
+    let moved : words ≡ open_words o ++ (suc a ∷ rest) = append_assoc (open_words o) (suc a ∷ []) rest in
+    let newest : label_in (get_or words (label_at (suc (length o))) 0) ≡ a = rw (moved, at, get_or-append_seam (open_words o) (suc a) rest 0, a_back) in
+    let others : open_in words (length o) ≡ o = rw moved (open_back o (suc a ∷ rest)) in
+    ap₂ (λ x xs. x ∷ xs) newest others
 
 -- Words above 0 up to d are those of labels.
 under : (words : List ℕ) (d : ℕ) → d ≤ length words → ((i : ℕ) → i < d → 0 < get_or words i 0) → take d words ≡ open_words (open_in words d)

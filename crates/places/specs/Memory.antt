@@ -1,6 +1,6 @@
 -- What work memory stands for: rows, each a position and its levels, and the labels of the open levels; and the words that
 -- these stand for. Definitions only. A row's levels are `Row` of meaning, the newest level first; so are labels.
-use Rattle.std.specs.Prelude.{List, [], ◌∷◌, ◌++◌, ◌≡◌, ℕ, zero, suc, ◌+◌, ◌-◌, ◌*◌, ◌<◌, ◌≤◌, get_or, length, drop}
+use Rattle.std.specs.Prelude.{List, [], ◌∷◌, ◌++◌, ◌≡◌, ℕ, zero, suc, ◌-◌, ◌*◌, ◌<◌, ◌≤◌, get_or, length, drop}
 use Rattle.meaning.specs.Rows.{Level, Row}
 use Rattle.places.specs.Places.{position_at, state_at, selecting_at, rejecting_at, row_length, rows_length, label_at, row_of, padded}
 

@@ -1,5 +1,4 @@
 -- `down` meets its contract, by those of `into` and `safe`.
-use borrow.Author.Rules.{rules}
 use Rattle.sets.proofs.down.Goals as goal
 
 pub returns : goal.returns

@@ -1,13 +1,8 @@
 -- `safe` meets its contract. The invariant: y has the states passed whose acc lies in x.
-use mathlib.Core.Path.{◌≡◌, refl, ◌∙◌}
-use Prim.Native.Nat.{ℕ, ◌≤◌, ◌-◌}
-use native.Mathlib.Numerals.{add-one}
-use native.Mathlib.Omega.{arith}
-use mathlib.Core.Logic.{⊎_elim}
-use borrow.Author.Tests.{eq-eqb, ne_eqb}
+use mathlib.Core.Path.{◌≡◌}
+use Prim.Native.Nat.{◌≤◌, ◌-◌}
 use lib.ListN.{get_or}
-use Rattle.meaning.specs.Masks.{within, added, collect}
-use Rattle.masks.proofs.Turns.{turn_taken, turn_left}
+use Rattle.meaning.specs.Masks.{within, collect}
 use Rattle.sets.proofs.safe.Given as goal
 
 abbrev pub invariant-loop-q : goal.invariant-loop-q
