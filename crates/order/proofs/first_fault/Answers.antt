@@ -3,7 +3,6 @@ use mathlib.Core.Path.{◌≡◌, sym, ◌∙◌}
 use mathlib.Core.List.{List}
 use Prim.Native.Nat.{ℕ, ◌≤◌}
 use native.Mathlib.Omega.{arith}
-use borrow.Author.Rules.{rules}
 use lib.ListN.{length}
 use Rattle.meaning.proofs.Search.{rest_start}
 use Rattle.order.specs.declared.Shape.{Shape}
@@ -11,8 +10,7 @@ use Rattle.order.specs.declared.Place.{Place}
 use Rattle.order.specs.declared.Place.TheVariants.{Fine, At}
 use Rattle.order.specs.Order.{labels_from, word_right, first_from, first_fault}
 use Rattle.order.proofs.Search.{rest_fault}
-use Rattle.order.proofs.first_fault.Statement.{statement}
-use Rattle.order.proofs.first_fault.Tie as tie
+use Rattle.order.proofs.first_fault.Goals as goal
 
 -- A fault found among the rows' words is the first.
 among-rows :
@@ -22,27 +20,10 @@ unfolding first_fault
 among-rows s words p k l h e =
     e ∙ rest_fault (word_right s words) (length words) (labels_from s) 0 k (rest_start At Fine (word_right s words) (length words)) (omega (arith, l)) (sym h ∙ e)
 
-rows-fault-requires : tie.Need-rows-fault-requires
-rows-fault-requires c κs = search rules
+pub labels_fault-requires : goal.labels_fault-requires
+labels_fault-requires c = record { allowed_bound = c.requires; value = sym c.in-Fine.is ∙ c.rows_fault-fault.ensures }
 
-enum_told : tie.Need-enum-told
-enum_told c = search rules
-
-enum-told-2 : tie.Need-enum-told-2
-enum-told-2 c = search rules
-
-labels-fault-requires : tie.Need-labels-fault-requires
-labels-fault-requires c κs = (c.before.before.before.before.requires, sym c.enum-told2.given.1 ∙ c.before.before.rows-fault.ensures)
-
-returns : tie.Need-returns
-returns c =
-    let a = c.before.before.before.before in
-    among-rows a.args.s a.args.words.now _ _ (omega arith) c.before.before.rows-fault.ensures c.enum_told.given.1
-
-returns-2 : tie.Need-returns-2
-returns-2 c = search rules
-
-pub first-fault-spec : {M : Type 1} → statement M
-first-fault-spec =
-    tie.close
-    (tie.spec rows-fault-requires enum_told enum-told-2 labels-fault-requires returns returns-2)
+pub returns-in-At : goal.returns-in-At
+returns-in-At c =
+    let a = c in
+    among-rows a.args.s a.args.words.now _ _ (omega arith) c.rows_fault-fault.ensures c.in-At.is
