@@ -1,6 +1,5 @@
 -- `report_end` meets its contract.
 use mathlib.Core.Path.{sym, ◌∙◌}
-use borrow.Author.Rules.{rules}
 use native.Mathlib.Omega.{arith}
 use Rattle.meaning.specs.Table.{table_of}
 use Rattle.places.specs.Memory.{held_in}

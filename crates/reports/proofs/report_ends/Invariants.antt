@@ -1,13 +1,8 @@
 -- `report_ends` meets its contract. The invariant: the rows passed are reported, one report a row.
-use mathlib.Core.Path.{◌≡◌, refl}
-use Prim.Native.Nat.{◌+◌, ◌-◌, ◌*◌, ◌≤◌}
-use native.Mathlib.Nat.{add-sub_cancel_left}
-use native.Mathlib.Omega.{arith}
-use lib.ListN.{length}
+use Prim.Native.Nat.{◌-◌}
 use Rattle.meaning.specs.Table.{table_of}
-use Rattle.places.proofs.Rows.{row_fits}
 use Rattle.reports.specs.Reports.{end_report}
-use Rattle.reports.proofs.Puts.{Reported, reported_none, reported_more}
+use Rattle.reports.proofs.Puts.{Reported}
 use Rattle.reports.proofs.report_ends.Given as goal
 
 abbrev pub invariant-loop-r : goal.invariant-loop-r

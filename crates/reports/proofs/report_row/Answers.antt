@@ -1,5 +1,4 @@
 -- `report_row` meets its contract, by that of `report_state`.
-use borrow.Author.Rules.{rules}
 use Prim.Native.Nat.{◌<◌}
 use native.Mathlib.Omega.{arith}
 use lib.ListN.{get_or}

@@ -1,12 +1,12 @@
 -- `report_rows` meets its contract. The invariant: the rows passed are reported.
 use mathlib.Core.Path.{◌≡◌}
-use Prim.Native.Nat.{◌+◌, ◌-◌, ◌*◌, ◌≤◌}
+use Prim.Native.Nat.{◌+◌, ◌*◌, ◌≤◌}
 use native.Mathlib.Nat.{add-sub_cancel_left}
 use native.Mathlib.Omega.{arith}
 use lib.ListN.{length}
 use Rattle.places.proofs.Rows.{row_fits}
 use Rattle.reports.specs.Reports.{report_of}
-use Rattle.reports.proofs.Puts.{Reported, reported_none, reported_more, report_few}
+use Rattle.reports.proofs.Puts.{reported_none, reported_more, report_few}
 use Rattle.reports.proofs.report_rows.Goals as goal
 
 pub loop-r-init : goal.loop-r-init
@@ -33,6 +33,15 @@ report_row-count-requires c =
     let l = c.loop-r in
     rw (add-sub_cancel_left (l.r * s.args.w) s.args.w)
     record { row_in = s.requires.rows_in.each l.r (omega arith); position_at_bound = (s.requires.by_index l.r (omega arith), omega (arith, l.invariant.few, l.invariant.len)) }
+
+pub loop-r-preserved : goal.loop-r-preserved
+loop-r-preserved c =
+    let s = c in
+    let l = c.loop-r in
+    let g = c.report_row-count in
+    let k = add-sub_cancel_left (l.r * s.args.w) s.args.w in
+    let e = rw k at g.ensures in
+    reported_more report_of report_few s.args.w s.args.d s.args.n s.args.words.now s.args.reports.now l.reports _ l.count l.r g.result l.invariant (omega arith) e.value e.reports_after g.auto.reports
 
 pub returns : goal.returns
 returns c =

@@ -1,12 +1,7 @@
 -- `report_rows` meets its contract. The invariant: the rows passed are reported.
-use mathlib.Core.Path.{◌≡◌}
-use Prim.Native.Nat.{◌+◌, ◌-◌, ◌*◌, ◌≤◌}
-use native.Mathlib.Nat.{add-sub_cancel_left}
-use native.Mathlib.Omega.{arith}
-use lib.ListN.{length}
-use Rattle.places.proofs.Rows.{row_fits}
+use Prim.Native.Nat.{◌-◌}
 use Rattle.reports.specs.Reports.{report_of}
-use Rattle.reports.proofs.Puts.{Reported, reported_none, reported_more, report_few}
+use Rattle.reports.proofs.Puts.{Reported}
 use Rattle.reports.proofs.report_rows.Given as goal
 
 abbrev pub invariant-loop-r : goal.invariant-loop-r
