@@ -82,9 +82,9 @@ module _ {ns : List (List ℕ)} where
       → (feed (read_step ns) (placed q o) v).stops ≡ Not → length (es ++ (feed (read_step ns) (placed q o) v).gives) ≤ r'
       → GoodFed ns r' (u ++ v) es (feed (read_step ns) (placed q o) v)
   read_on_good {u = u} {es = es} [] g s l = rw (append-nil u, append-nil es) (good_room g (rw (append-nil es) at l))
-  read_on_good {r' = r'} {u = u} {o} {es} {q} (b ∷ v) g s l =
+  read_on_good {r = r} {r' = r'} {u = u} {o} {es} {q} (b ∷ v) g s l =
       go (read_step ns (placed q o) b).stops refl
-      (λ k t m. read_on_good {r' = r'} {u = u ++ (b ∷ [])} {es = es ++ (read_step ns (placed q o) b).gives} v k t m)
+      (λ k t m. read_on_good {r = length (es ++ (read_step ns (placed q o) b).gives)} {r' = r'} {u = u ++ (b ∷ [])} {es = es ++ (read_step ns (placed q o) b).gives} v k t m)
     where
       go : (y : Stop) → (read_step ns (placed q o) b).stops ≡ y
           → (Good ns (length (es ++ (read_step ns (placed q o) b).gives)) (u ++ (b ∷ []))

@@ -1,10 +1,10 @@
 -- Which place of a text is the first at fault, and by what kind, told by the grammar and not by how a text is read.
 -- Definitions only.
-use Rattle.std.specs.Prelude.{◌≡◌, true, List, [], ◌∷◌, ◌++◌, ℕ, suc, ◌<◌, ◌≤◌, length}
+use Rattle.std.specs.Prelude.{◌≡◌, true, List, [], ◌∷◌, ◌++◌, ℕ, ◌<◌, ◌≤◌, length}
 use Rattle.grammar.specs.declared.Fault.{Fault}
 use Rattle.grammar.specs.declared.Fault.TheVariants as fault
 use Rattle.grammar.specs.Names.{is_name, place_of}
-use Rattle.grammar.specs.Tags.{Tag, name_of, tag_text, Holds, Labels, Nested, Text, Begun, begun_text, is_begun}
+use Rattle.grammar.specs.Tags.{Tag, name_of, tag_text, Holds, Labels, Nested, Begun, begun_text, is_begun}
 
 -- Some text of tags and blanks begins with s.
 pub record Begins (s : List ℕ) : Type 0 where

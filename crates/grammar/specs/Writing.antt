@@ -5,8 +5,6 @@ use Rattle.answers.specs.declared.Event.{Event}
 use Rattle.answers.specs.declared.Event.TheVariants as event
 use Rattle.answers.specs.Bytes.{meaning_of}
 use Rattle.grammar.specs.declared.Fault.TheVariants as fault
-use Rattle.grammar.specs.declared.Stop.{Stop}
-use Rattle.grammar.specs.declared.Stop.TheVariants.{Not, At}
 use Rattle.grammar.specs.declared.Writing.{Writing}
 use Rattle.grammar.specs.declared.Writing.TheVariants as writing
 use Rattle.grammar.specs.Names.{name_at, lines_of, good_names}

@@ -1,5 +1,5 @@
 -- A name as the reader and the writer hold it, and the list of names in its terms. Definitions only.
-use Rattle.std.specs.Prelude.{Bool, true, false, not, cond, ◌&&◌, List, [], ◌∷◌, ℕ, ◌+◌, ◌-◌, eqb, ltb, length, get_or, set, replicate, take}
+use Rattle.std.specs.Prelude.{Bool, false, not, cond, ◌&&◌, List, [], ◌∷◌, ℕ, ◌+◌, ◌-◌, eqb, ltb, length, get_or, set, replicate, take}
 use Rattle.grammar.specs.Bytes.{is_letter, is_name_byte}
 use Rattle.grammar.specs.Names.{lines_of, place_of}
 use Rattle.names.specs.declared.Word.{Word}

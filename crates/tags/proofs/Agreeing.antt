@@ -5,7 +5,6 @@ use lib.Dec.{ltb}
 use lib.ListN.{length}
 use mathlib.Core.List.{List, [], ◌∷◌}
 use Prim.Native.Nat.{ℕ, ◌+◌}
-use Rattle.grammar.specs.declared.Fault.TheVariants as fault
 use Rattle.grammar.specs.Feeding.{Step, goes_on, Fed, feed, Roomed, roomed}
 
 -- Two steps do the same, and lead to related states.

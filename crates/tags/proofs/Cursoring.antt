@@ -1,6 +1,6 @@
 -- What a byte's outcome says of the cursor's step, and what the loops over a piece of text answer by it. Assumes nothing.
 use mathlib.Core.Path.{◌≡◌, refl, sym, ap, ◌∙◌}
-use mathlib.Core.List.{List, [], ◌∷◌, ◌++◌}
+use mathlib.Core.List.{List, [], ◌∷◌}
 use Prim.Native.Nat.{ℕ, ◌+◌, ◌-◌, ◌<◌, ◌≤◌}
 use native.Mathlib.Omega.{arith}
 use lib.ListN.{length, get_or}
@@ -13,7 +13,6 @@ use Rattle.tags.specs.declared.reader.Cursor.{Cursor}
 use Rattle.tags.specs.declared.reader.Outcome.{Outcome}
 use Rattle.tags.specs.declared.reader.Outcome.TheVariants as outcome
 use Rattle.tags.specs.declared.reader.Stepped.{Stepped}
-use Rattle.tags.specs.declared.reader.Fed as read
 use Rattle.tags.specs.Cursors.{step_of, cursor_step, given_by, stop_by, feed_in, fed_of, feed_out}
 use Rattle.meaning.specs.Lent.{put_at}
 use Rattle.meaning.proofs.Lent.{put_none}

@@ -1,17 +1,15 @@
 -- A text that comes in pieces, as a program reads it. Feeding the pieces is the same as reading the whole text at once, up to its
 -- first fault: where each piece is lent the room that the ones before have left, for any room; and where each is lent room for
 -- as many events as it has bytes, for room enough. Assumes nothing.
-use mathlib.Core.Path.{◌≡◌, refl, sym, ap, ap₂, ◌∙◌}
+use mathlib.Core.Path.{◌≡◌, refl, sym, ap, ◌∙◌}
 use mathlib.Core.Bool.{Bool, true, false, cond}
-use mathlib.Core.List.{List, [], ◌∷◌, ◌++◌}
-use Prim.Native.Nat.{ℕ, ◌+◌, ◌-◌, ◌<◌, ◌≤◌}
+use mathlib.Core.List.{List, [], ◌∷◌}
+use Prim.Native.Nat.{ℕ, ◌-◌, ◌<◌, ◌≤◌}
 use native.Mathlib.Omega.{arith}
 use borrow.Author.Tests.{lt-ltb}
-use lib.Dec.{ltb}
 use lib.ListN.{length, length-append}
-use Rattle.grammar.specs.declared.Fault.TheVariants as fault
 use Rattle.grammar.specs.declared.Stop.{Stop}
-use Rattle.grammar.specs.declared.Stop.TheVariants.{Not, At}
+use Rattle.grammar.specs.declared.Stop.TheVariants.{Not}
 use Rattle.grammar.specs.Names.{lines_of, good_names}
 use Rattle.grammar.specs.Feeding.{goes_on, Fed, Roomed, after, feed, roomed}
 use Rattle.grammar.specs.Reading.{read_fed, end_stop, text_stop, answer_of, read_answer}
@@ -20,7 +18,6 @@ use Rattle.tags.specs.declared.reader.Cursor.{Cursor}
 use Rattle.tags.specs.declared.reader.Outcome.{Outcome}
 use Rattle.tags.specs.declared.reader.Outcome.TheVariants as outcome
 use Rattle.tags.specs.Cursors.{begin, closed_in, step_of, given_by, cursor_step, feed_in, fed_of, whole_stop}
-use Rattle.tags.proofs.Agreeing.{FeedsAgree, InRoom}
 use Rattle.tags.proofs.Places.{closed_is}
 use Rattle.tags.proofs.WholeTexts.{mine, same, stop_is}
 

@@ -10,7 +10,7 @@ use Rattle.grammar.specs.declared.Stop.TheVariants.{Not, At}
 use Rattle.grammar.specs.Feeding.{Fed, Roomed, stepped}
 use Rattle.tags.specs.declared.writer.Scribe.{Scribe}
 use Rattle.tags.specs.declared.writer.Given.{Given}
-use Rattle.tags.specs.declared.writer.Given.TheVariants as goal
+use Rattle.tags.specs.declared.writer.Given.TheVariants as given
 use Rattle.tags.specs.declared.writer.Spelled.{Spelled}
 use Rattle.tags.specs.declared.writer.Space.{Space}
 use Rattle.tags.specs.declared.writer.Wrote.{Wrote}
@@ -22,14 +22,14 @@ use Rattle.tags.proofs.Spaces.{space_all, space_less}
 
 -- An event stops exactly where it is at fault.
 goes_on : (g : Given) → is_fault g ≡ false → stop_by g ≡ Not
-goes_on goal.Nothing e = refl
-goes_on (goal.Tag f) e = refl
-goes_on goal.Fault e = cc
+goes_on given.Nothing e = refl
+goes_on (given.Tag f) e = refl
+goes_on given.Fault e = cc
 
 stops : (g : Given) → is_fault g ≡ true → stop_by g ≡ At fault.Byte
-stops goal.Nothing e = cc
-stops (goal.Tag f) e = cc
-stops goal.Fault e = refl
+stops given.Nothing e = cc
+stops (given.Tag f) e = cc
+stops given.Fault e = refl
 
 -- How far events are followed: where they lead, and what room their tags have left.
 pub record Follows (names : List ℕ) (s : Scribe) (events : List ℕ) (room : ℕ) (next : Scribe) (space : Space) (taken : ℕ) : Type 0 where
@@ -68,35 +68,35 @@ abbrev pub Written : List ℕ → Scribe → List ℕ → List ℕ → List ℕ 
 Written names s piece out₀ out r = (r ≡ wrote_of (write_in names s (length out₀) piece)) × (out ≡ written_out names s piece out₀)
 
 -- Where a piece is written so far.
-module _ (names : List ℕ) (s : Scribe) (piece out₀ : List ℕ) {out : List ℕ} {next : Scribe} (taken goal : ℕ)
-    (w : Holds (scribe_step names) s piece out₀ out next taken goal) where
+module _ (names : List ℕ) (s : Scribe) (piece out₀ : List ℕ) {out : List ℕ} {next : Scribe} (taken given : ℕ)
+    (w : Holds (scribe_step names) s piece out₀ out next taken given) where
   -- The answer and the output, where the events came to this.
   answers : (stop : Stop)
-      → write_in names s (length out₀) piece ≡ record { gives = w.gives; taken = taken; state = room_in next (length out₀ - goal); stops = stop }
-      → Written names s piece out₀ out (record { next = next; taken = taken; goal = goal; stop = stop })
+      → write_in names s (length out₀) piece ≡ record { gives = w.gives; taken = taken; state = room_in next (length out₀ - given); stops = stop }
+      → Written names s piece out₀ out (record { next = next; taken = taken; given = given; stop = stop })
   answers stop e =
-      (rw (e, w.so_far.count), holds_out (scribe_step names) s piece out₀ taken goal w (write_in names s (length out₀) piece) (ap (λ (f : Fed (Roomed Scribe)). f.gives) e))
+      (rw (e, w.so_far.count), holds_out (scribe_step names) s piece out₀ taken given w (write_in names s (length out₀) piece) (ap (λ (f : Fed (Roomed Scribe)). f.gives) e))
 
-  pub writes_all : length piece ≤ taken → Written names s piece out₀ out (record { next = next; taken = taken; goal = goal; stop = Not })
-  writes_all l = answers Not (gives_all (scribe_step names) s (length out₀) piece taken goal w.so_far l)
+  pub writes_all : length piece ≤ taken → Written names s piece out₀ out (record { next = next; taken = taken; given = given; stop = Not })
+  writes_all l = answers Not (gives_all (scribe_step names) s (length out₀) piece taken given w.so_far l)
 
   module _ (l : taken < length piece) (x : Spelled) (e : x ≡ spell_step names next (get_or piece taken 0)) where
     -- The next event, as it is spelled, is at fault, has no room, or is written.
     pub writes_stop : is_fault x.given ≡ true
-        → Written names s piece out₀ out (record { next = next; taken = taken; goal = goal; stop = At fault.Byte })
+        → Written names s piece out₀ out (record { next = next; taken = taken; given = given; stop = At fault.Byte })
     writes_stop h =
-        answers (At fault.Byte) (gives_stop (scribe_step names) s (length out₀) piece taken goal w.so_far l fault.Byte (rw e at (stops x.given h)))
+        answers (At fault.Byte) (gives_stop (scribe_step names) s (length out₀) piece taken given w.so_far l fault.Byte (rw e at (stops x.given h)))
 
-    pub writes_short : is_fault x.given ≡ false → length out₀ - goal < length (gives_by x.given x.name)
-        → Written names s piece out₀ out (record { next = next; taken = taken; goal = goal; stop = At fault.Short })
+    pub writes_short : is_fault x.given ≡ false → length out₀ - given < length (gives_by x.given x.name)
+        → Written names s piece out₀ out (record { next = next; taken = taken; given = given; stop = At fault.Short })
     writes_short h k =
         answers (At fault.Short)
-        (gives_short (scribe_step names) s (length out₀) piece taken goal w.so_far l (rw e at (goes_on x.given h)) (rw e at k))
+        (gives_short (scribe_step names) s (length out₀) piece taken given w.so_far l (rw e at (goes_on x.given h)) (rw e at k))
 
-    pub writes_on : is_fault x.given ≡ false → (n : ℕ) → n ≡ length (gives_by x.given x.name) → n ≤ length out₀ - goal
-        → {out' : List ℕ} → out' ≡ put_at goal (gives_by x.given x.name) out
-        → Holds (scribe_step names) s piece out₀ out' x.next (taken + 1) (goal + n)
-    writes_on h n m k p = holds_on (scribe_step names) s piece out₀ taken goal w l n on m k p
+    pub writes_on : is_fault x.given ≡ false → (n : ℕ) → n ≡ length (gives_by x.given x.name) → n ≤ length out₀ - given
+        → {out' : List ℕ} → out' ≡ put_at given (gives_by x.given x.name) out
+        → Holds (scribe_step names) s piece out₀ out' x.next (taken + 1) (given + n)
+    writes_on h n m k p = holds_on (scribe_step names) s piece out₀ taken given w l n on m k p
       where
         on : scribe_step names next (get_or piece taken 0) ≡ stepped x.next (gives_by x.given x.name)
         on = rw (e, (rw e at (goes_on x.given h)))

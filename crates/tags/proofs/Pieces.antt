@@ -1,13 +1,12 @@
 -- What a loop over a piece holds, for any step, with room for what is given: how far the piece has gone, and what stands in
 -- the output. Assumes nothing.
 use mathlib.Core.Path.{◌≡◌, refl, sym, ap, ◌∙◌}
-use mathlib.Core.List.{List, [], ◌∷◌, ◌++◌}
+use mathlib.Core.List.{List, [], ◌++◌}
 use Prim.Native.Nat.{ℕ, ◌+◌, ◌-◌, ◌<◌, ◌≤◌}
 use native.Mathlib.Omega.{arith}
 use lib.ListN.{length, get_or, drop, length-append}
 use Rattle.grammar.specs.declared.Fault.{Fault}
 use Rattle.grammar.specs.declared.Fault.TheVariants as fault
-use Rattle.grammar.specs.declared.Stop.{Stop}
 use Rattle.grammar.specs.declared.Stop.TheVariants.{Not, At}
 use Rattle.grammar.specs.Feeding.{Step, Fed, feed, Roomed, roomed, stepped}
 use Rattle.grammar.proofs.Feeding.{went, broke, roomed_fits, roomed_short, roomed_stop}

@@ -2,8 +2,8 @@
 -- bytes give the same events and are at fault alike. Assumes nothing.
 use mathlib.Core.Path.{◌≡◌, refl, sym, ap, ap₂, ◌∙◌, subst}
 use mathlib.Core.Bool.{Bool, true, false, cond, ◌&&◌}
-use mathlib.Core.List.{List, [], ◌∷◌, ◌++◌}
-use Prim.Native.Nat.{ℕ, zero, suc, ◌+◌, ◌-◌, ◌%◌, ◌<◌, ◌≤◌}
+use mathlib.Core.List.{List, [], ◌∷◌}
+use Prim.Native.Nat.{ℕ, zero, suc, ◌+◌, ◌%◌, ◌<◌, ◌≤◌}
 use native.Mathlib.Nat.{mod-eq_of_lt}
 use native.Mathlib.Omega.{arith}
 use borrow.Author.Tests.{ltb-true, ne_eqb}
@@ -11,18 +11,16 @@ use lib.Dec.{eqb, ltb}
 use lib.ListN.{length, get_or}
 use Rattle.grammar.specs.declared.Fault.{Fault}
 use Rattle.grammar.specs.declared.Fault.TheVariants as fault
-use Rattle.grammar.specs.declared.Stop.{Stop}
-use Rattle.grammar.specs.Bytes.{is_blank, is_letter, is_name_byte, less, slash, greater, class_of}
+use Rattle.grammar.specs.Bytes.{class_of}
 use Rattle.grammar.specs.Names.{place_of, lines_of, good_names}
 use Rattle.grammar.specs.Tags.{Tag, Begun}
-use Rattle.grammar.specs.Feeding.{Step, goes_on, stopped, stepped, feed, Roomed, roomed}
+use Rattle.grammar.specs.Feeding.{Step, stopped, stepped, feed, roomed}
 use Rattle.grammar.specs.Reading as reading
 use Rattle.grammar.specs.Reading.{Place, Next, extend, read_step, fresh, judge, judged, close}
-use Rattle.grammar.proofs.Names.{GoodList, good_list}
+use Rattle.grammar.proofs.Names.{good_list}
 use Rattle.names.specs.declared.Word.{Word}
 use Rattle.names.specs.declared.Label.{Label}
-use Rattle.names.specs.declared.Label.TheVariants as label
-use Rattle.names.specs.Words.{no_word, with_byte, label_in, labelled, known}
+use Rattle.names.specs.Words.{label_in, labelled}
 use Rattle.names.proofs.Classes.{class_blank, class_letter, class_name, class_less, class_slash, class_greater}
 use Rattle.names.proofs.Finding.{eqb_turned}
 use Rattle.names.proofs.Spelling.{Spells, spells_none, spells_more}
@@ -33,8 +31,8 @@ use Rattle.tags.specs.declared.reader.Within.{Within}
 use Rattle.tags.specs.declared.reader.Within.TheVariants as within
 use Rattle.tags.specs.declared.reader.Cursor.{Cursor}
 use Rattle.tags.specs.declared.reader.Stepped.{Stepped}
-use Rattle.tags.specs.Levels.{deeper_by, shallower, newest_of, open_from, open_in}
-use Rattle.tags.specs.Cursors.{begin, faulted, moved, tag_at, judge_in, judge_by, tag_step, step_in, step_of, closed_within, closed_in, cursor_step, given_by, stop_by, feed_in}
+use Rattle.tags.specs.Levels.{shallower, newest_of, open_from, open_in}
+use Rattle.tags.specs.Cursors.{begin, faulted, moved, tag_at, judge_in, judge_by, tag_step, step_in, closed_within, closed_in, cursor_step, given_by, stop_by, feed_in}
 use Rattle.tags.proofs.Agreeing.{StepsAgree, FeedsAgree, agree_by, agree_feed, InRoom, agree_roomed}
 use Rattle.tags.proofs.Opened.{Kept, kept_none, open_length, open_deeper, kept_deeper, kept_shallower, newest_is, open_shallower}
 

@@ -27,7 +27,7 @@ use Rattle.tags.specs.declared.writer.Scribe.{Scribe}
 use Rattle.tags.specs.declared.writer.Form.TheVariants as form
 use Rattle.tags.specs.declared.writer.Spelled.{Spelled}
 use Rattle.tags.specs.Levels.{deeper_by, shallower, newest_of, open_from, open_in}
-use Rattle.tags.specs.Writers.{begin, wrong, ended, written, has_name, close_event, close_of_event, event_step, spell_step, gives_by, stop_by, scribe_step, follow_in, write_in}
+use Rattle.tags.specs.Writers.{begin, wrong, written, has_name, close_event, close_of_event, event_step, spell_step, gives_by, stop_by, scribe_step, follow_in, write_in}
 use Rattle.tags.proofs.Agreeing.{StepsAgree, FeedsAgree, agree_by, agree_feed, InRoom, agree_roomed}
 use Rattle.tags.proofs.Opened.{Kept, kept_none, open_length, open_deeper, kept_deeper, kept_shallower, newest_is, open_shallower}
 

@@ -1,12 +1,12 @@
 -- What `read` answers and leaves, from what its survey found. Assumes nothing.
 use mathlib.Core.Path.{◌≡◌, refl, sym, ap, ap₂, ◌∙◌}
-use mathlib.Core.Bool.{Bool, true, false, cond, ◌&&◌, true≢false}
-use mathlib.Core.List.{List, [], ◌∷◌, ◌++◌}
-use Prim.Native.Nat.{ℕ, suc, ◌+◌, ◌-◌, ◌<◌, ◌≤◌}
+use mathlib.Core.Bool.{Bool, true, false, cond, true≢false}
+use mathlib.Core.List.{List, ◌∷◌, ◌++◌}
+use Prim.Native.Nat.{ℕ, suc, ◌+◌, ◌-◌, ◌<◌}
 use native.Mathlib.Numerals.{add-one}
 use native.Mathlib.Omega.{arith}
 use borrow.Author.Tests.{ltb-true}
-use lib.Dec.{eqb, ltb}
+use lib.Dec.{ltb}
 use lib.ListN.{length, drop, set}
 use lib.Seq.{set_at, drop-cons}
 use Rattle.grammar.specs.declared.Fault.{Fault}
@@ -17,10 +17,10 @@ use Rattle.grammar.specs.declared.Reading.TheVariants as answer
 use Rattle.grammar.specs.Names.{lines_of, good_names}
 use Rattle.grammar.specs.Feeding.{goes_on, Fed, Roomed, feed}
 use Rattle.grammar.specs.Reading.{Place, fresh, closed, read_fed, end_stop, text_stop, read_answer, read_out}
-use Rattle.grammar.proofs.Feeding.{room_inner, room_enough, with_room, not_at}
+use Rattle.grammar.proofs.Feeding.{room_inner, room_enough, not_at}
 use Rattle.tags.specs.declared.reader.Cursor.{Cursor}
 use Rattle.tags.specs.declared.reader.Fed as fed
-use Rattle.tags.specs.Cursors.{begin, closed_in, cursor_step, feed_in, fed_of, feed_out, whole_stop}
+use Rattle.tags.specs.Cursors.{begin, cursor_step, feed_in, fed_of, feed_out, whole_stop}
 use Rattle.tags.proofs.Agreeing.{FeedsAgree, InRoom}
 use Rattle.tags.proofs.Places.{Stands, stands_begin, closed_is, piece_agrees}
 

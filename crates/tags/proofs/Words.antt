@@ -18,9 +18,9 @@ use Rattle.tags.specs.declared.levels.Levels.{Levels}
 use Rattle.tags.specs.declared.writer.Scribe.{Scribe}
 use Rattle.tags.specs.declared.writer.Form.{Form}
 use Rattle.tags.specs.declared.writer.Form.TheVariants as form
-use Rattle.tags.specs.declared.writer.Given.TheVariants as goal
+use Rattle.tags.specs.declared.writer.Given.TheVariants as given
 use Rattle.tags.specs.Levels.{newest_of, deeper_by, shallower}
-use Rattle.tags.specs.Writers.{wrong, ended, written, has_name, close_event, event_step, spell_step, Writable, tag_bytes, tag_length}
+use Rattle.tags.specs.Writers.{wrong, written, has_name, close_event, event_step, spell_step, Writable, tag_bytes, tag_length}
 
 -- A tag's length, by its name's.
 pub tag_length_lem : (f : Form) (w : Word) → Writable w → tag_length f w ≡ length (tag_bytes f w)
@@ -91,7 +91,7 @@ spelled_writable names s b = go s.ended
         names_it false = none_writable
     by event.End = ends (eqb s.levels.depth 0)
       where
-        ends : (t : Bool) → Writable (cond t (record { next = record { levels = s.levels; ended = true }; goal = goal.Nothing; name = no_word }) (wrong s)).name
+        ends : (t : Bool) → Writable (cond t (record { next = record { levels = s.levels; ended = true }; given = given.Nothing; name = no_word }) (wrong s)).name
         ends true = none_writable
         ends false = none_writable
     by event.Unknown = none_writable

@@ -1,5 +1,5 @@
 -- The open elements as the reader and the writer hold them. Definitions only.
-use Rattle.std.specs.Prelude.{Bool, cond, ◌&&◌, ◌||◌, List, [], ◌∷◌, ℕ, zero, suc, ◌+◌, ◌-◌, eqb, ltb, get_or, set, replicate}
+use Rattle.std.specs.Prelude.{Bool, cond, ◌||◌, List, [], ◌∷◌, ℕ, zero, suc, ◌+◌, ◌-◌, eqb, ltb, get_or, set, replicate}
 use Rattle.tags.specs.declared.levels.Levels.{Levels}
 
 abbrev pub no_levels : Levels
