@@ -2,20 +2,19 @@
 -- Assumes nothing.
 use mathlib.Core.Path.{◌≡◌, refl, sym, ap, ◌∙◌}
 use mathlib.Core.Bool.{Bool, true, false, not, cond}
-use mathlib.Core.List.{List, [], ◌∷◌, ◌++◌}
+use mathlib.Core.List.{List, [], ◌∷◌}
 use Prim.Native.Nat.{ℕ}
 use native.Mathlib.Omega.{arith}
-use Rattle.meaning.specs.Refusals.{Line, first_of, applies_at}
+use Rattle.meaning.specs.Refusals.{Line, first_of}
 use Rattle.meaning.proofs.Refusals.{taken_exactly}
 use Rattle.bodies.specs.Sound.{states_in, labels_in}
-use Rattle.table.specs.File.{is_short, header_right, contents_right, length_right, bodies_right, reading_of}
-use Rattle.table.specs.declared.Reading.TheVariants.{Taken}
+use Rattle.table.specs.File.{is_short, header_right, contents_right, length_right, bodies_right}
 use Rattle.answers.specs.declared.Record.{Record}
 use Rattle.answers.specs.declared.Event.{Event}
 use Rattle.answers.specs.declared.Refusal.{Refusal}
 use Rattle.judge.specs.declared.Judged.{Judged}
 use Rattle.judge.specs.declared.Judged.TheVariants.{Fine, Refused}
-use Rattle.judge.specs.Judging.{judged_number, call_lines, event_lines, judged_lines, newest_word}
+use Rattle.judge.specs.Judging.{judged_number, event_lines, judged_lines, newest_word}
 use Rattle.judge.proofs.Following.{first_append, call_passes}
 use Rattle.judge.proofs.Passed.{Passed, call_passed}
 use Rattle.table.proofs.Sound.{taken_is_sound}
