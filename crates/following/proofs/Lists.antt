@@ -48,9 +48,14 @@ module _ {A B : Type 0} (f : A → B) where
   in_map In.first = In.first
   in_map (In.later h) = In.later (in_map h)
 
+  out_first : {y : B} (z : B) (zs : List B) → In y (z ∷ zs) → (y ≡ z) ⊎ In y zs
+  out_first z zs In.first = inl refl
+  out_first z zs (In.later h) = inr h
+
   pub out_map : {y : B} (xs : List A) → In y (map f xs) → (x : A) × In x xs × (f x ≡ y)
-  out_map (x ∷ xs) In.first = (x, In.first, refl)
-  out_map (x ∷ xs) (In.later h) = let (z, g, e) = out_map xs h in (z, In.later g, e)
+  out_map [] h = elim h [ ]
+  out_map (x ∷ xs) h =
+      ⊎_elim (λ e. (x, In.first, sym e)) (λ g. let (z, k, e) = out_map xs g in (z, In.later k, e)) (out_first (f x) (map f xs) h)
 
   -- Functions that agree on the members of a list.
   pub map_as : (g : A → B) (xs : List A) → ((x : A) → In x xs → f x ≡ g x) → map f xs ≡ map g xs
@@ -81,6 +86,7 @@ rising_append l h Rising.none s = rising_from l s
 rising_append l h (Rising.over m n r) s = Rising.over m (omega arith) (rising_append n h r s)
 
 pub rising_in : {high low x : ℕ} {xs : List ℕ} → Rising high low xs → In x xs → (low < x) × (x ≤ high)
+rising_in Rising.none h = elim h [ ]
 rising_in (Rising.over l m r) In.first = (l, m)
 rising_in (Rising.over l m r) (In.later h) = let (a, b) = rising_in r h in (omega arith, b)
 
@@ -132,10 +138,11 @@ times_none i (x ∷ xs) h = rw (ne_eqb (position_of x) i (h x In.first)) (omega 
 pub times_once :
     {high low : ℕ} (i : ℕ) (xs : List ℕ) → Rising high low (map position_of xs) →
     (x : ℕ) → In x xs → position_of x ≡ i → times i xs ≡ 1
+times_once i [] r x h e = elim h [ ]
 times_once i (x ∷ xs) (Rising.over l m r) _ In.first e =
     rw (eq-eqb (position_of x) i e) (omega (arith, times_none i xs (λ y h q. omega (arith, rising_in r (in_map position_of h)))))
-times_once i (y ∷ xs) (Rising.over l m r) x (In.later h) e =
-    rw (ne_eqb (position_of y) i (λ q. omega (arith, rising_in r (in_map position_of h)))) (omega (arith, times_once i xs r x h e))
+times_once {high = high} {low = low} i (y ∷ xs) (Rising.over l m r) x (In.later h) e =
+    rw (ne_eqb (position_of y) i (λ q. omega (arith, rising_in r (in_map position_of h)))) (omega (arith, times_once {high = high} {low = position_of y} i xs r x h e))
 
 -- Numbers that rise are known by their members.
 pub rising_same : {high low : ℕ} {xs ys : List ℕ} → Rising high low xs → Rising high low ys → ((x : ℕ) → In x xs ↔ In x ys) → xs ≡ ys
