@@ -1,6 +1,6 @@
 -- A watch follows its stream: after a taken start and any calls, record and memory are those of the events taken. Assumes
 -- nothing but that the start was taken.
-use mathlib.Core.Bool.{Bool, true, false, true≢false}
+use mathlib.Core.Bool.{Bool, true, false, not, true≢false}
 use mathlib.Core.List.{List, [], ◌∷◌, ◌++◌}
 use mathlib.Core.Path.{◌≡◌, refl, sym, ap, ◌∙◌, subst}
 use Prim.Native.Nat.{ℕ, ◌<◌, ◌≤◌}
@@ -29,7 +29,8 @@ use Rattle.answers.specs.Answers.{outcome_number}
 use Rattle.answers.specs.Record.{no_record, with_alive, finished_of}
 use Rattle.judge.specs.declared.Judged.{Judged}
 use Rattle.judge.specs.declared.Judged.TheVariants.{Fine, Refused}
-use Rattle.judge.specs.Judging.{judged_number, table_lines, sizes_right, start_lines}
+use Rattle.answers.specs.declared.Refusal.TheVariants.{Sizes}
+use Rattle.judge.specs.Judging.{refuses, judged_number, table_lines, sizes_right, start_lines}
 use Rattle.judge.proofs.Passed.{EventPassed, passed, event_passed, start_passed}
 use Rattle.engine.specs.Calls.{After, step_record, memory_of, labels_of, taking, answer_of, unless, event_answer, start_judged, start_after}
 use Rattle.engine.proofs.Numbers.{event_taken, start_taken}
@@ -78,7 +79,7 @@ follows_start f rows depth work h =
     let p = start_passed f rows depth (length work) fine in
     record {
       formed = p.sound.formed;
-      file_right = λ i l. sym (front_applies (table_lines f) _ i l) ∙ none i;
+      file_right = λ i l. sym (front_applies (table_lines f) (refuses (not (sizes_right rows depth (length work))) Sizes ∷ []) i l) ∙ none i;
       sized = subst (λ n. sizes_right rows depth n ≡ true) p.size_is (not-false (sizes_right rows depth (length work)) (none 5));
       few_levels = p.few_levels;
       levels = 0;

@@ -1,6 +1,6 @@
 -- A watch's own record and memory, handed back as received, are in order. Assumes a watch that a taken start and any calls led to.
 use mathlib.Core.Bool.{Bool, true, false, not}
-use mathlib.Core.List.{List, [], ◌∷◌}
+use mathlib.Core.List.{List, [], ◌∷◌, ◌++◌}
 use mathlib.Core.Path.{◌≡◌, refl, sym, ap, ◌∙◌}
 use Prim.Native.Nat.{ℕ, suc}
 use native.Mathlib.Omega.{arith}
@@ -9,6 +9,7 @@ use borrow.Author.Tests.{le-leb, eq-eqb, ne_eqb}
 use lib.Dec.{eqb}
 use lib.ListN.{length, get_or}
 use Rattle.meaning.specs.Table.{Table, table_of}
+use Rattle.meaning.specs.Refusals.{Line}
 use Rattle.meaning.specs.Streams as stream
 use Rattle.meaning.specs.Streams.{open_after}
 use Rattle.meaning.proofs.Rows as below
@@ -20,7 +21,10 @@ use Rattle.answers.specs.declared.Record.{Record}
 use Rattle.answers.specs.declared.Event.{Event}
 use Rattle.answers.specs.declared.Event.TheVariants.{Open, Point, Close, CloseOf, End, Unknown}
 use Rattle.answers.specs.Bytes.{meaning_of}
-use Rattle.judge.specs.Judging.{table_lines, record_right, shape_of, fault_of, is_fault, closes_another, newest_word}
+use Rattle.judge.specs.declared.Judged.{Judged}
+use Rattle.judge.specs.Judging.{table_lines, call_lines, event_lines, record_right, shape_of, fault_of, is_fault, closes_another, newest_word}
+use Rattle.bodies.specs.Sound.{states_in, labels_in}
+use Rattle.engine.specs.Calls.{taking, rows_lines}
 use Rattle.following.specs.Following.{memory_after}
 use Rattle.following.proofs.Ordered.{newest_back, in_order, zeros_in_order}
 use Rattle.following.proofs.Held.{held_rise, memory_good}
@@ -94,8 +98,11 @@ module _ (f : List ℕ) (rows depth : ℕ) (s : Watching) (follow : Follows f ro
 
   pub next_handed : (c : Call) → Handed f rows s c
   next_handed c =
+      let rest : List (Line Judged) =
+          call_lines (states_in f) (labels_in f) s.now s.work (length c.lent) ++ event_lines (labels_in f) s.now (newest_word s.now s.work) (meaning_of c.byte)
+          ++ rows_lines s.now (taking (table_of f) s.now s.work (meaning_of c.byte)) in
       record {
-        file_right = λ i l. front_applies (table_lines f) _ i (omega (arith, l)) ∙ follow.file_right i l;
+        file_right = λ i l. front_applies (table_lines f) rest i (omega (arith, l)) ∙ follow.file_right i l;
         size_right = rw ((numbers_now f rows depth s follow).0, (numbers_now f rows depth s follow).1, work_long f rows depth s follow, follow.sized);
         in_order = ap is_fault no_fault;
         going_on = (numbers_now f rows depth s follow).3;

@@ -247,6 +247,8 @@ module _ (f : List ℕ) (rows depth rows' depth' : ℕ) (more_rows : rows ≤ ro
       (cs cs' : List Call) → Alike rows rows' cs cs' → (s s' : Watching) → Beside f rows depth rows' depth' s s' → NoWant (told_all f s cs) →
       SameAnswers f s s' cs cs'
   calls_same [] [] room.none s s' beside free = record { same_told = refl; same_stream = beside.same_stream; same_reports = beside.same_told }
+  calls_same [] (c' ∷ cs') alike s s' beside free = elim alike [ ]
+  calls_same (c ∷ cs) [] alike s s' beside free = elim alike [ ]
   calls_same (c ∷ cs) (c' ∷ cs') (room.over byte-same lent_same alike) s s' beside (room.over not-deep not-rows free) =
       let n = answer_number (judged_of f s c) s.now (after_of f s c) in
       let x = next_same f rows depth rows' depth' more_rows more-depth s s' beside c c' byte-same lent_same (⊎_elim (λ e. not-deep (n ∙ e)) (λ e. not-rows (n ∙ e))) in

@@ -27,7 +27,7 @@ words_rise {high} {low} (x ∷ xs) (Rising.over l m r) =
     let above : 2 * low + 1 < x = omega (arith, l) in
     let most : x ≤ 2 * high + 1 = omega (arith, m) in
     let next : x ≤ 2 * position_of x + 1 = omega arith in
-    Rising.over above most (rising_from next (words_rise xs r))
+    Rising.over above most (rising_from next (words_rise {high = high} {low = position_of x} xs r))
 
 -- Timely words are the only ones.
 pub timely_same : (t : Table) (before after : Stream) (xs ys : List ℕ) → Timely t before after xs → Timely t before after ys → xs ≡ ys
