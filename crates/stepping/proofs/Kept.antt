@@ -1,6 +1,7 @@
 -- Steps lead from good rows to good rows; and how many rows an event leaves. Assumes a well-formed table.
 use mathlib.Core.Path.{◌≡◌, refl, ap, ap₂, ◌∙◌}
 use mathlib.Core.Bool.{Bool, true, false, cond, ◌||◌}
+use mathlib.Core.Logic.{inl, inr}
 use mathlib.Core.List.{List, [], ◌∷◌, ◌++◌, map, append-nil}
 use Prim.Native.Nat.{ℕ, suc, ◌+◌, ◌-◌, ◌<◌, ◌≤◌}
 use native.Mathlib.Omega.{arith}
@@ -89,6 +90,12 @@ none_born t x p run hs e = ap (λ y. hs ++ born t (event_of y) p run) e ∙ appe
 -- The match of a step that left out the close.
 abbrev pub Other : Step → Type 0
 Other x = OneOf (0 ∷ 1 ∷ []) (tag_of the_type x)
+
+-- A step that is no close.
+pub other_of : (x : Step) → ¬ (x ≡ step.Close) → Other x
+other_of (step.Open a) n = inl refl
+other_of (step.Point a) n = inr refl
+other_of step.Close n = absurd (n refl)
 
 pub one_born : (t : Table) (x : Step) (p : ℕ) (run : Row) → Other x → born t (event_of x) p run ≡ new_of t (p + 1) run ∷ []
 one_born t (step.Open a) p run other = refl

@@ -10,7 +10,7 @@ use lib.Seq.{take_at, drop_at, drop-drop}
 use Rattle.meaning.specs.Table.{Table, WellFormed}
 use Rattle.meaning.specs.Streams.{Event, Open, Point, Close}
 use Rattle.places.specs.Places.{position_at, row_length, row_at, rows_length, row_of, padded}
-use Rattle.places.specs.Memory.{Held, row_words, each, all_words, row_in, helds_in, memory_in, rows_words, RowIn, RowsIn}
+use Rattle.places.specs.Memory.{Held, row_words, all_words, row_in, helds_in, memory_in, rows_words, RowIn, RowsIn}
 use Rattle.places.proofs.Good.{Good, AllGood, first_row, later_rows, rows_of_lem, helds_back, all_length, next_row_of, helds_length, held_back}
 use Rattle.places.proofs.Good as good
 use Rattle.places.proofs.Rows.{each_append}

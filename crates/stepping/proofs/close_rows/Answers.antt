@@ -1,7 +1,6 @@
 -- `close_rows` meets its contract: where no row was reported, all are left, and they fill their words. Assumes nothing.
 use mathlib.Core.Path.{◌≡◌, sym}
 use native.Mathlib.Omega.{arith}
-use borrow.Author.Rules.{rules}
 use lib.ListN.{length}
 use Rattle.places.specs.Memory.{helds_in}
 use Rattle.places.proofs.Good.{helds_length}

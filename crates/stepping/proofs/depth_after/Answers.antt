@@ -2,7 +2,6 @@
 use mathlib.Core.Path.{◌≡◌, subst}
 use Prim.Native.Nat.{ℕ, ◌<◌}
 use native.Mathlib.Omega.{arith}
-use borrow.Author.Rules.{rules}
 use Rattle.rows.specs.declared.Step.{Step}
 use Rattle.rows.specs.Steps.{event_of}
 use Rattle.stepping.specs.Stepping.{Moves}

@@ -2,7 +2,6 @@
 use mathlib.Core.Path.{ap, ap₂, ◌∙◌}
 use mathlib.Core.List.{[]}
 use native.Mathlib.Omega.{arith}
-use borrow.Author.Rules.{rules}
 use lib.ListN.{set, length-set, replicate}
 use Rattle.meaning.specs.Table.{table_of}
 use Rattle.meaning.specs.Masks.{accs_of}

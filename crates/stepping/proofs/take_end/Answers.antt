@@ -1,6 +1,4 @@
 -- `take_end` meets its contract.
-use Prim.Native.Nat.{◌-◌}
-use borrow.Author.Rules.{rules}
 use Rattle.stepping.proofs.Whole.{rest_part}
 use Rattle.stepping.proofs.take_end.Goals as goal
 

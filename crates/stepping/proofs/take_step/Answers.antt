@@ -1,24 +1,17 @@
 -- `take_step` meets its contract: the laws of Taken, one after the other.
-use mathlib.Core.Path.{◌≡◌, sym, ap, ap₂, ◌∙◌, subst}
-use mathlib.Core.List.{List, [], ◌∷◌, ◌++◌, map}
-use Prim.Native.Nat.{ℕ, ◌+◌, ◌-◌, ◌*◌, ◌<◌, ◌≤◌}
-use native.Mathlib.Nat.{mul-le-mul_right}
+use mathlib.Core.Path.{◌≡◌}
+use mathlib.Core.List.{◌++◌, map}
+use Prim.Native.Nat.{◌+◌, ◌*◌, ◌≤◌}
 use native.Mathlib.Omega.{arith}
-use borrow.Author.Rules.{rules}
-use borrow.Rule.Slice.PartMut.{same_len_mid}
-use lib.ListN.{length, take, drop, replicate, length-append}
+use lib.ListN.{drop}
 use Rattle.meaning.specs.Table.{table_of}
-use Rattle.meaning.specs.Rows.{Row}
-use Rattle.places.specs.Places.{row_length, rows_length, padded}
-use Rattle.places.specs.Memory.{Held, helds_in, all_words, rows_words}
-use Rattle.rows.specs.Steps.{event_of, step_row, on_row, depth_after}
-use Rattle.reports.specs.Reports.{report_of, reports_of, left_over, left_of}
-use Rattle.meaning.specs.Lent.{put_at, on_front}
-use Rattle.meaning.proofs.Lent.{put_more}
-use Rattle.stepping.specs.Stepping.{new_of, born}
-use Rattle.stepping.proofs.Kept.{moves_of, none_born, one_born, counted_of, left_new, one_more, reports_few}
+use Rattle.places.specs.Places.{row_length}
+use Rattle.places.specs.Memory.{helds_in, all_words}
+use Rattle.rows.specs.Steps.{event_of, step_row, on_row}
+use Rattle.stepping.proofs.Kept.{moves_of, other_of, counted_of}
 use Rattle.stepping.proofs.Whole.{rest_part}
-use Rattle.stepping.proofs.Taken.{older, run, older_length, later_in, later_helds, later_small, room, closed_words, run_in, run_is, none_added, some_added}
+use Rattle.stepping.proofs.Taken.{later_in, later_small}
+use Rattle.stepping.proofs.Ends.{report_fits, close_counts, close_words, close_reports, run_row, left_fits, row_fits, other_counts, other_words, other_reports}
 use Rattle.stepping.proofs.take_step.Goals as goal
 
 pub step_rows-requires : goal.step_rows-requires
@@ -53,3 +46,38 @@ close_rows-left-requires c =
     let is = stepped-is in
     let w-is = c.row_length-w.ensures in
     let d-is = c.depth_after-d.ensures in record { rows_in = rw (w-is, d-is, rest_part next (row_length a.depth)) (later_in (table_of a.table.now) s.requires.sound.formed a.accs.now (event_of a.step) a.rows a.depth a.d a.alive a.work.now s.requires.stands s.requires.can.0 next is); n_bound = (omega (arith, s.requires.stands.room, s.requires.stands.few_rows), c.report_rows-count.ensures.value) }
+
+pub returns-in-Close : goal.returns-in-Close
+returns-in-Close c =
+    let a = c.args in
+    record {
+      value = close_counts (table_of a.table.now) c.requires.sound.formed a.accs.now a.step a.rows a.depth a.d a.alive a.positions a.work.now a.reports.now c.requires.stands c.requires.can.0 c.row_length-w.result c.depth_after-d.result c.row_length-w.ensures c.depth_after-d.ensures c.step_rows.new.words c.step_rows.ensures c.report_rows-count.result c.report_rows-count.new.reports c.report_rows-count.ensures.value c.report_rows-count.ensures.reports_after c.close_rows-left.result c.close_rows-left.new.words c.close_rows-left.ensures.value c.close_rows-left.ensures.words_after c.step_rows.auto.words c.close_rows-left.auto.words c.in-Close.is;
+      work_after = close_words (table_of a.table.now) c.requires.sound.formed a.accs.now a.step a.rows a.depth a.d a.alive a.positions a.work.now a.reports.now c.requires.stands c.requires.can.0 c.row_length-w.result c.depth_after-d.result c.row_length-w.ensures c.depth_after-d.ensures c.step_rows.new.words c.step_rows.ensures c.report_rows-count.result c.report_rows-count.new.reports c.report_rows-count.ensures.value c.report_rows-count.ensures.reports_after c.close_rows-left.result c.close_rows-left.new.words c.close_rows-left.ensures.value c.close_rows-left.ensures.words_after c.step_rows.auto.words c.close_rows-left.auto.words c.in-Close.is;
+      reports_after = close_reports (table_of a.table.now) c.requires.sound.formed a.accs.now a.step a.rows a.depth a.d a.alive a.positions a.work.now a.reports.now c.requires.stands c.requires.can.0 c.row_length-w.result c.depth_after-d.result c.row_length-w.ensures c.depth_after-d.ensures c.step_rows.new.words c.step_rows.ensures c.report_rows-count.result c.report_rows-count.new.reports c.report_rows-count.ensures.value c.report_rows-count.ensures.reports_after c.close_rows-left.result c.close_rows-left.new.words c.close_rows-left.ensures.value c.close_rows-left.ensures.words_after c.step_rows.auto.words c.close_rows-left.auto.words c.in-Close.is;
+    }
+
+pub add_position-requires : goal.add_position-requires
+add_position-requires c =
+    let a = c.args in
+    let other = other_of a.step c.in_default.not-Close in
+    let few = counted_of a.step a.positions other c.requires.can.1 in
+    let rows_few : a.rows ≤ 64 = c.requires.stands.few_rows in
+    let levels_few : a.depth ≤ 40 = c.requires.stands.few_levels in
+    let left_few = left_fits (table_of a.table.now) c.requires.sound.formed a.accs.now a.step a.rows a.depth a.d a.alive a.positions a.work.now a.reports.now c.requires.stands c.requires.can.0 c.row_length-w.result c.depth_after-d.result c.row_length-w.ensures c.depth_after-d.ensures c.step_rows.new.words c.step_rows.ensures c.report_rows-count.result c.report_rows-count.new.reports c.report_rows-count.ensures.value c.report_rows-count.ensures.reports_after c.close_rows-left.result c.close_rows-left.new.words c.close_rows-left.ensures.value c.close_rows-left.ensures.words_after c.step_rows.auto.words c.close_rows-left.auto.words other c.requires.work_len_bound in
+    record {
+      sound = c.requires.sound;
+      row_in = run_row (table_of a.table.now) c.requires.sound.formed a.accs.now a.step a.rows a.depth a.d a.alive a.positions a.work.now a.reports.now c.requires.stands c.requires.can.0 c.row_length-w.result c.depth_after-d.result c.row_length-w.ensures c.depth_after-d.ensures c.step_rows.new.words c.step_rows.ensures c.report_rows-count.result c.report_rows-count.new.reports c.report_rows-count.ensures.value c.report_rows-count.ensures.reports_after c.close_rows-left.result c.close_rows-left.new.words c.close_rows-left.ensures.value c.close_rows-left.ensures.words_after c.step_rows.auto.words c.close_rows-left.auto.words;
+      w_bound = (omega (arith, c.row_length-w.ensures, levels_few), omega (arith, few), omega (arith, left_few, rows_few), report_fits (table_of a.table.now) c.requires.sound.formed a.accs.now a.step a.rows a.depth a.d a.alive a.positions a.work.now a.reports.now c.requires.stands c.requires.can.0 c.row_length-w.result c.depth_after-d.result c.row_length-w.ensures c.depth_after-d.ensures c.step_rows.new.words c.step_rows.ensures c.report_rows-count.result c.report_rows-count.new.reports c.report_rows-count.ensures.value c.report_rows-count.ensures.reports_after c.report_rows-count.auto.reports c.requires.rows_in_bounds);
+      w_in_bounds = row_fits (table_of a.table.now) c.requires.sound.formed a.accs.now a.step a.rows a.depth a.d a.alive a.positions a.work.now a.reports.now c.requires.stands c.requires.can.0 c.row_length-w.result c.depth_after-d.result c.row_length-w.ensures c.depth_after-d.ensures c.step_rows.new.words c.step_rows.ensures c.report_rows-count.result c.report_rows-count.new.reports c.report_rows-count.ensures.value c.report_rows-count.ensures.reports_after c.close_rows-left.result c.close_rows-left.new.words c.close_rows-left.ensures.value c.close_rows-left.ensures.words_after c.step_rows.auto.words c.close_rows-left.auto.words other c.requires.work_len_bound;
+    }
+
+pub returns : goal.returns
+returns c =
+    let a = c.args in
+    let other = other_of a.step c.in_default.not-Close in
+    let g = c.add_position in
+    record {
+      value = other_counts (table_of a.table.now) c.requires.sound.formed a.accs.now a.step a.rows a.depth a.d a.alive a.positions a.work.now a.reports.now c.requires.stands c.requires.can.0 c.row_length-w.result c.depth_after-d.result c.row_length-w.ensures c.depth_after-d.ensures c.step_rows.new.words c.step_rows.ensures c.report_rows-count.result c.report_rows-count.new.reports c.report_rows-count.ensures.value c.report_rows-count.ensures.reports_after c.close_rows-left.result c.close_rows-left.new.words c.close_rows-left.ensures.value c.close_rows-left.ensures.words_after c.step_rows.auto.words c.close_rows-left.auto.words other g.result g.ensures.value;
+      work_after = other_words (table_of a.table.now) c.requires.sound.formed a.accs.now a.step a.rows a.depth a.d a.alive a.positions a.work.now a.reports.now c.requires.stands c.requires.can.0 c.row_length-w.result c.depth_after-d.result c.row_length-w.ensures c.depth_after-d.ensures c.step_rows.new.words c.step_rows.ensures c.report_rows-count.result c.report_rows-count.new.reports c.report_rows-count.ensures.value c.report_rows-count.ensures.reports_after c.close_rows-left.result c.close_rows-left.new.words c.close_rows-left.ensures.value c.close_rows-left.ensures.words_after c.step_rows.auto.words c.close_rows-left.auto.words other g.new.work g.ensures.work_after g.auto.work;
+      reports_after = other_reports (table_of a.table.now) c.requires.sound.formed a.accs.now a.step a.rows a.depth a.d a.alive a.positions a.work.now a.reports.now c.requires.stands c.requires.can.0 c.row_length-w.result c.depth_after-d.result c.row_length-w.ensures c.depth_after-d.ensures c.step_rows.new.words c.step_rows.ensures c.report_rows-count.result c.report_rows-count.new.reports c.report_rows-count.ensures.value c.report_rows-count.ensures.reports_after c.close_rows-left.result c.close_rows-left.new.words c.close_rows-left.ensures.value c.close_rows-left.ensures.words_after c.step_rows.auto.words c.close_rows-left.auto.words other g.new.reports g.ensures.reports_after;
+    }
