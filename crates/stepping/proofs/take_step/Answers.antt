@@ -51,9 +51,9 @@ pub returns-in-Close : goal.returns-in-Close
 returns-in-Close c =
     let a = c.args in
     record {
-      value = close_counts (table_of a.table.now) c.requires.sound.formed a.accs.now a.step a.rows a.depth a.d a.alive a.positions a.work.now a.reports.now c.requires.stands c.requires.can.0 c.row_length-w.result c.depth_after-d.result c.row_length-w.ensures c.depth_after-d.ensures c.step_rows.new.words c.step_rows.ensures c.report_rows-count.result c.report_rows-count.new.reports c.report_rows-count.ensures.value c.report_rows-count.ensures.reports_after c.close_rows-left.result c.close_rows-left.new.words c.close_rows-left.ensures.value c.close_rows-left.ensures.words_after c.step_rows.auto.words c.close_rows-left.auto.words c.in-Close.is;
-      work_after = close_words (table_of a.table.now) c.requires.sound.formed a.accs.now a.step a.rows a.depth a.d a.alive a.positions a.work.now a.reports.now c.requires.stands c.requires.can.0 c.row_length-w.result c.depth_after-d.result c.row_length-w.ensures c.depth_after-d.ensures c.step_rows.new.words c.step_rows.ensures c.report_rows-count.result c.report_rows-count.new.reports c.report_rows-count.ensures.value c.report_rows-count.ensures.reports_after c.close_rows-left.result c.close_rows-left.new.words c.close_rows-left.ensures.value c.close_rows-left.ensures.words_after c.step_rows.auto.words c.close_rows-left.auto.words c.in-Close.is;
-      reports_after = close_reports (table_of a.table.now) c.requires.sound.formed a.accs.now a.step a.rows a.depth a.d a.alive a.positions a.work.now a.reports.now c.requires.stands c.requires.can.0 c.row_length-w.result c.depth_after-d.result c.row_length-w.ensures c.depth_after-d.ensures c.step_rows.new.words c.step_rows.ensures c.report_rows-count.result c.report_rows-count.new.reports c.report_rows-count.ensures.value c.report_rows-count.ensures.reports_after c.close_rows-left.result c.close_rows-left.new.words c.close_rows-left.ensures.value c.close_rows-left.ensures.words_after c.step_rows.auto.words c.close_rows-left.auto.words c.in-Close.is;
+      value = close_counts _ c.requires.sound.formed _ a.step _ _ _ _ a.positions _ a.reports.now c.requires.stands c.requires.can.0 _ _ c.row_length-w.ensures c.depth_after-d.ensures _ c.step_rows.ensures _ _ c.report_rows-count.ensures.value c.report_rows-count.ensures.reports_after _ _ c.close_rows-left.ensures.value c.close_rows-left.ensures.words_after c.step_rows.auto.words c.close_rows-left.auto.words c.in-Close.is;
+      work_after = close_words _ c.requires.sound.formed _ a.step _ _ _ _ a.positions _ a.reports.now c.requires.stands c.requires.can.0 _ _ c.row_length-w.ensures c.depth_after-d.ensures _ c.step_rows.ensures _ _ c.report_rows-count.ensures.value c.report_rows-count.ensures.reports_after _ _ c.close_rows-left.ensures.value c.close_rows-left.ensures.words_after c.step_rows.auto.words c.close_rows-left.auto.words c.in-Close.is;
+      reports_after = close_reports _ c.requires.sound.formed _ a.step _ _ _ _ a.positions _ a.reports.now c.requires.stands c.requires.can.0 _ _ c.row_length-w.ensures c.depth_after-d.ensures _ c.step_rows.ensures _ _ c.report_rows-count.ensures.value c.report_rows-count.ensures.reports_after _ _ c.close_rows-left.ensures.value c.close_rows-left.ensures.words_after c.step_rows.auto.words c.close_rows-left.auto.words c.in-Close.is;
     }
 
 pub add_position-requires : goal.add_position-requires
@@ -63,12 +63,12 @@ add_position-requires c =
     let few = counted_of a.step a.positions other c.requires.can.1 in
     let rows_few : a.rows ≤ 64 = c.requires.stands.few_rows in
     let levels_few : a.depth ≤ 40 = c.requires.stands.few_levels in
-    let left_few = left_fits (table_of a.table.now) c.requires.sound.formed a.accs.now a.step a.rows a.depth a.d a.alive a.positions a.work.now a.reports.now c.requires.stands c.requires.can.0 c.row_length-w.result c.depth_after-d.result c.row_length-w.ensures c.depth_after-d.ensures c.step_rows.new.words c.step_rows.ensures c.report_rows-count.result c.report_rows-count.new.reports c.report_rows-count.ensures.value c.report_rows-count.ensures.reports_after c.close_rows-left.result c.close_rows-left.new.words c.close_rows-left.ensures.value c.close_rows-left.ensures.words_after c.step_rows.auto.words c.close_rows-left.auto.words other c.requires.work_len_bound in
+    let left_few = left_fits _ c.requires.sound.formed _ a.step _ _ _ _ a.positions _ a.reports.now c.requires.stands c.requires.can.0 _ _ c.row_length-w.ensures c.depth_after-d.ensures _ c.step_rows.ensures _ _ c.report_rows-count.ensures.value c.report_rows-count.ensures.reports_after _ _ c.close_rows-left.ensures.value c.close_rows-left.ensures.words_after c.step_rows.auto.words c.close_rows-left.auto.words other c.requires.work_len_bound in
     record {
       sound = c.requires.sound;
-      row_in = run_row (table_of a.table.now) c.requires.sound.formed a.accs.now a.step a.rows a.depth a.d a.alive a.positions a.work.now a.reports.now c.requires.stands c.requires.can.0 c.row_length-w.result c.depth_after-d.result c.row_length-w.ensures c.depth_after-d.ensures c.step_rows.new.words c.step_rows.ensures c.report_rows-count.result c.report_rows-count.new.reports c.report_rows-count.ensures.value c.report_rows-count.ensures.reports_after c.close_rows-left.result c.close_rows-left.new.words c.close_rows-left.ensures.value c.close_rows-left.ensures.words_after c.step_rows.auto.words c.close_rows-left.auto.words;
-      w_bound = (omega (arith, c.row_length-w.ensures, levels_few), omega (arith, few), omega (arith, left_few, rows_few), report_fits (table_of a.table.now) c.requires.sound.formed a.accs.now a.step a.rows a.depth a.d a.alive a.positions a.work.now a.reports.now c.requires.stands c.requires.can.0 c.row_length-w.result c.depth_after-d.result c.row_length-w.ensures c.depth_after-d.ensures c.step_rows.new.words c.step_rows.ensures c.report_rows-count.result c.report_rows-count.new.reports c.report_rows-count.ensures.value c.report_rows-count.ensures.reports_after c.report_rows-count.auto.reports c.requires.rows_in_bounds);
-      w_in_bounds = row_fits (table_of a.table.now) c.requires.sound.formed a.accs.now a.step a.rows a.depth a.d a.alive a.positions a.work.now a.reports.now c.requires.stands c.requires.can.0 c.row_length-w.result c.depth_after-d.result c.row_length-w.ensures c.depth_after-d.ensures c.step_rows.new.words c.step_rows.ensures c.report_rows-count.result c.report_rows-count.new.reports c.report_rows-count.ensures.value c.report_rows-count.ensures.reports_after c.close_rows-left.result c.close_rows-left.new.words c.close_rows-left.ensures.value c.close_rows-left.ensures.words_after c.step_rows.auto.words c.close_rows-left.auto.words other c.requires.work_len_bound;
+      row_in = run_row _ c.requires.sound.formed _ a.step _ _ _ _ a.positions _ a.reports.now c.requires.stands c.requires.can.0 _ _ c.row_length-w.ensures c.depth_after-d.ensures _ c.step_rows.ensures _ _ c.report_rows-count.ensures.value c.report_rows-count.ensures.reports_after _ _ c.close_rows-left.ensures.value c.close_rows-left.ensures.words_after c.step_rows.auto.words c.close_rows-left.auto.words;
+      w_bound = (omega (arith, c.row_length-w.ensures, levels_few), omega (arith, few), omega (arith, left_few, rows_few), report_fits _ c.requires.sound.formed _ a.step _ _ _ _ a.positions _ a.reports.now c.requires.stands c.requires.can.0 _ _ c.row_length-w.ensures c.depth_after-d.ensures _ c.step_rows.ensures _ _ c.report_rows-count.ensures.value c.report_rows-count.ensures.reports_after c.report_rows-count.auto.reports c.requires.rows_in_bounds);
+      w_in_bounds = row_fits _ c.requires.sound.formed _ a.step _ _ _ _ a.positions _ a.reports.now c.requires.stands c.requires.can.0 _ _ c.row_length-w.ensures c.depth_after-d.ensures _ c.step_rows.ensures _ _ c.report_rows-count.ensures.value c.report_rows-count.ensures.reports_after _ _ c.close_rows-left.ensures.value c.close_rows-left.ensures.words_after c.step_rows.auto.words c.close_rows-left.auto.words other c.requires.work_len_bound;
     }
 
 pub returns : goal.returns
@@ -77,7 +77,7 @@ returns c =
     let other = other_of a.step c.in_default.not-Close in
     let g = c.add_position in
     record {
-      value = other_counts (table_of a.table.now) c.requires.sound.formed a.accs.now a.step a.rows a.depth a.d a.alive a.positions a.work.now a.reports.now c.requires.stands c.requires.can.0 c.row_length-w.result c.depth_after-d.result c.row_length-w.ensures c.depth_after-d.ensures c.step_rows.new.words c.step_rows.ensures c.report_rows-count.result c.report_rows-count.new.reports c.report_rows-count.ensures.value c.report_rows-count.ensures.reports_after c.close_rows-left.result c.close_rows-left.new.words c.close_rows-left.ensures.value c.close_rows-left.ensures.words_after c.step_rows.auto.words c.close_rows-left.auto.words other g.result g.ensures.value;
-      work_after = other_words (table_of a.table.now) c.requires.sound.formed a.accs.now a.step a.rows a.depth a.d a.alive a.positions a.work.now a.reports.now c.requires.stands c.requires.can.0 c.row_length-w.result c.depth_after-d.result c.row_length-w.ensures c.depth_after-d.ensures c.step_rows.new.words c.step_rows.ensures c.report_rows-count.result c.report_rows-count.new.reports c.report_rows-count.ensures.value c.report_rows-count.ensures.reports_after c.close_rows-left.result c.close_rows-left.new.words c.close_rows-left.ensures.value c.close_rows-left.ensures.words_after c.step_rows.auto.words c.close_rows-left.auto.words other g.new.work g.ensures.work_after g.auto.work;
-      reports_after = other_reports (table_of a.table.now) c.requires.sound.formed a.accs.now a.step a.rows a.depth a.d a.alive a.positions a.work.now a.reports.now c.requires.stands c.requires.can.0 c.row_length-w.result c.depth_after-d.result c.row_length-w.ensures c.depth_after-d.ensures c.step_rows.new.words c.step_rows.ensures c.report_rows-count.result c.report_rows-count.new.reports c.report_rows-count.ensures.value c.report_rows-count.ensures.reports_after c.close_rows-left.result c.close_rows-left.new.words c.close_rows-left.ensures.value c.close_rows-left.ensures.words_after c.step_rows.auto.words c.close_rows-left.auto.words other g.new.reports g.ensures.reports_after;
+      value = other_counts _ c.requires.sound.formed _ a.step _ _ _ _ a.positions _ a.reports.now c.requires.stands c.requires.can.0 _ _ c.row_length-w.ensures c.depth_after-d.ensures _ c.step_rows.ensures _ _ c.report_rows-count.ensures.value c.report_rows-count.ensures.reports_after _ _ c.close_rows-left.ensures.value c.close_rows-left.ensures.words_after c.step_rows.auto.words c.close_rows-left.auto.words other g.result g.ensures.value;
+      work_after = other_words _ c.requires.sound.formed _ a.step _ _ _ _ a.positions _ a.reports.now c.requires.stands c.requires.can.0 _ _ c.row_length-w.ensures c.depth_after-d.ensures _ c.step_rows.ensures _ _ c.report_rows-count.ensures.value c.report_rows-count.ensures.reports_after _ _ c.close_rows-left.ensures.value c.close_rows-left.ensures.words_after c.step_rows.auto.words c.close_rows-left.auto.words other g.new.work g.ensures.work_after g.auto.work;
+      reports_after = other_reports _ c.requires.sound.formed _ a.step _ _ _ _ a.positions _ a.reports.now c.requires.stands c.requires.can.0 _ _ c.row_length-w.ensures c.depth_after-d.ensures _ c.step_rows.ensures _ _ c.report_rows-count.ensures.value c.report_rows-count.ensures.reports_after _ _ c.close_rows-left.ensures.value c.close_rows-left.ensures.words_after c.step_rows.auto.words c.close_rows-left.auto.words other g.new.reports g.ensures.reports_after;
     }
