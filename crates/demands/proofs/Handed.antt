@@ -99,8 +99,8 @@ module _ (f : List ℕ) (rows depth : ℕ) (s : Watching) (follow : Follows f ro
   pub next_handed : (c : Call) → Handed f rows s c
   next_handed c =
       let rest : List (Line Judged) =
-          call_lines (states_in f) (labels_in f) s.now s.work (length c.lent) ++ event_lines (labels_in f) s.now (newest_word s.now s.work) (meaning_of c.byte)
-          ++ rows_lines s.now (taking (table_of f) s.now s.work (meaning_of c.byte)) in
+      call_lines (states_in f) (labels_in f) s.now s.work (length c.lent) ++ event_lines (labels_in f) s.now (newest_word s.now s.work) (meaning_of c.byte)
+      ++ rows_lines s.now (taking (table_of f) s.now s.work (meaning_of c.byte)) in
       record {
         file_right = λ i l. front_applies (table_lines f) rest i (omega (arith, l)) ∙ follow.file_right i l;
         size_right = rw ((numbers_now f rows depth s follow).0, (numbers_now f rows depth s follow).1, work_long f rows depth s follow, follow.sized);
