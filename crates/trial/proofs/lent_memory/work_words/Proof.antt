@@ -2,8 +2,8 @@
 use Prim.Native.Nat.{◌≤◌, ◌-◌}
 use native.Mathlib.Omega.{arith}
 use borrow.Author.Rules.{rules}
-use Rattle.trial.proofs.memory.work_words.Statement.{statement}
-use Rattle.trial.proofs.memory.work_words.Tie as tie
+use Rattle.trial.proofs.lent_memory.work_words.Statement.{statement}
+use Rattle.trial.proofs.lent_memory.work_words.Tie as tie
 
 abbrev invariant-loop : tie.invariant-loop
 invariant-loop rows depth row words₀ i₀ words i = 0 ≤ i

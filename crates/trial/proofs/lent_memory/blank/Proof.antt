@@ -4,8 +4,8 @@ use Prim.Native.Nat.{◌-◌}
 use native.Mathlib.Omega.{arith}
 use borrow.Author.Rules.{rules}
 use lib.ListN.{length}
-use Rattle.trial.proofs.memory.blank.Statement.{statement}
-use Rattle.trial.proofs.memory.blank.Tie as tie
+use Rattle.trial.proofs.lent_memory.blank.Statement.{statement}
+use Rattle.trial.proofs.lent_memory.blank.Tie as tie
 
 abbrev invariant-loop : tie.invariant-loop
 invariant-loop reports₀ i₀ reports i = length reports ≡ length reports₀

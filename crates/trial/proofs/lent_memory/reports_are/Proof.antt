@@ -3,8 +3,8 @@ use Prim.Native.Nat.{◌≤◌, ◌-◌}
 use native.Mathlib.Omega.{arith}
 use borrow.Author.Rules.{rules}
 use lib.ListN.{length}
-use Rattle.trial.proofs.memory.reports_are.Statement.{statement}
-use Rattle.trial.proofs.memory.reports_are.Tie as tie
+use Rattle.trial.proofs.lent_memory.reports_are.Statement.{statement}
+use Rattle.trial.proofs.lent_memory.reports_are.Tie as tie
 
 abbrev invariant-loop : tie.invariant-loop
 invariant-loop reports must count alike₀ i₀ alike i = 0 ≤ i
