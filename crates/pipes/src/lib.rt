@@ -3,7 +3,8 @@
 // anything of its caller.
 #![tactic(auto)]
 
-ghost use Rattle.std.specs.Prelude.{◌≡◌, true, ◌+◌, ◌≤◌, min};
+ghost use Rattle.std.specs.Prelude.{◌≡◌, true, ◌+◌, ◌≤◌, min, take};
+ghost use Rattle.std.specs.Io.KnownBytes.{Consumes};
 ghost use Rattle.pipes.specs.Counts.{IsPrefixLen};
 
 use std::fs;
@@ -18,8 +19,9 @@ const LINE: usize = 128;
 
 // Reads once, and answers how many bytes it put at the front: what there is, up to so much room, and 0 at the end. A read
 // that fails counts as the end.
-pub fn read_some(from: &mut impl Read, block: &mut [u8]) -> usize
-    ensures { IsPrefixLen result block.new }
+pub fn read_some<R: Read>(from: &mut R, block: &mut [u8]) -> usize
+    ensures within { IsPrefixLen result block.new }
+    ensures bytes { Consumes (R.remaining from.old) (R.remaining from.new) (take result block.new) }
 {
     match from.read(block) {
         Ok(bytes) => bytes,
@@ -28,8 +30,9 @@ pub fn read_some(from: &mut impl Read, block: &mut [u8]) -> usize
 }
 
 // Reads until there is no more room, or to the end, and answers how many bytes it put at the front.
-pub fn read_full(from: &mut impl Read, file: &mut [u8]) -> usize
-    ensures { IsPrefixLen result file.new }
+pub fn read_full<R: Read>(from: &mut R, file: &mut [u8]) -> usize
+    ensures within { IsPrefixLen result file.new }
+    ensures bytes { Consumes (R.remaining from.old) (R.remaining from.new) (take result file.new) }
 {
     let mut size = 0;
     while size < file.len() {
