@@ -1,5 +1,4 @@
 -- `put` is safe. The invariant: the line, as long as it was, has room for all the bytes.
-use mathlib.Core.Path.{◌≡◌}
 use Prim.Native.Nat.{◌+◌, ◌-◌, ◌≤◌}
 use lib.ListN.{length}
 use Rattle.pipes.proofs.put.Given as goal
