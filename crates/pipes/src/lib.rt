@@ -3,37 +3,71 @@
 // anything of its caller.
 #![tactic(auto)]
 
-ghost use Rattle.std.specs.Prelude.{◌≡◌, true, ◌+◌, ◌≤◌, min};
-ghost use Rattle.io.specs.Counts.{IsPrefixLen};
+ghost use Rattle.std.specs.Prelude.{◌≡◌, true, ◌+◌, ◌≤◌, min, take};
+ghost use Rattle.std.specs.Io.KnownBytes.{Consumes};
+ghost use Rattle.pipes.specs.Counts.{IsPrefixLen};
 
-use libc::{STDERR_FILENO, STDOUT_FILENO};
+use std::fs;
+use std::io::{Print, Read};
+use std::rt::Files;
+
+// So many bytes are read at once, or wait to be written.
+pub const BLOCK: usize = 65536;
 
 // More than the longest line of a refusal takes: its words, and a place of at most 20 digits.
 const LINE: usize = 128;
 
-// Reads a file, as far as there is room, and answers how many bytes it put at the front. One that cannot be opened or read
-// counts as empty: a failed open answers -1, from which nothing is read.
-pub fn load(path: &[u8], file: &mut [u8]) -> usize
-    ensures { IsPrefixLen result file.new }
+// Reads once, and answers how many bytes it put at the front: what there is, up to so much room, and 0 at the end. A read
+// that fails counts as the end.
+pub fn read_some<R: Read>(from: &mut R, block: &mut [u8]) -> usize
+    ensures within { IsPrefixLen result block.new }
+    ensures bytes { Consumes (R.remaining from.old) (R.remaining from.new) (take result block.new) }
 {
-    let fd = os::open_read(path);
-    let size = io::read_full(fd, file);
-    libc::close(fd);
+    match from.read(block) {
+        Ok(bytes) => bytes,
+        Err(_) => 0,
+    }
+}
+
+// Reads until there is no more room, or to the end, and answers how many bytes it put at the front.
+pub fn read_full<R: Read>(from: &mut R, file: &mut [u8]) -> usize
+    ensures within { IsPrefixLen result file.new }
+    ensures bytes { Consumes (R.remaining from.old) (R.remaining from.new) (take result file.new) }
+{
+    let mut size = 0;
+    while size < file.len() {
+        let bytes = read_some(from, &mut file[size..]);
+        if bytes == 0 {
+            break;
+        }
+        size += bytes;
+    }
     size
 }
 
-// Writes the first bytes to a descriptor. Answers whether that succeeded.
-fn write_to(fd: i32, bytes: &[u8], count: usize) -> bool {
+// Reads a file, as far as there is room, and answers how many bytes it put at the front. One that cannot be opened or read
+// counts as empty.
+pub fn load(rt: &impl Files, path: &str, file: &mut [u8]) -> usize
+    ensures { IsPrefixLen result file.new }
+{
+    match fs::open(rt, path) {
+        Ok(mut from) => read_full(&mut from, file),
+        Err(_) => 0,
+    }
+}
+
+// Writes the first bytes. Answers whether that succeeded.
+fn write_to(to: &impl Print, bytes: &[u8], count: usize) -> bool {
     if count <= bytes.len() {
-        io::write_all(fd, &bytes[..count])
+        to.write_all(&bytes[..count]).is_ok()
     } else {
         false
     }
 }
 
 // Writes the first bytes of the output to standard output. Answers whether that succeeded.
-pub fn write_front(out: &[u8], count: usize) -> bool {
-    write_to(STDOUT_FILENO, out, count)
+pub fn write_front(rt: &impl Print, out: &[u8], count: usize) -> bool {
+    write_to(rt, out, count)
 }
 
 // The place so many bytes on. It stops growing at its maximum.
@@ -102,17 +136,18 @@ pub fn put_number(line: &mut [u8], at: usize, x: u64) -> usize {
 }
 
 // The line of a list of names that is not good.
-pub fn refuse_names() {
-    io::write_all(STDERR_FILENO, b"refused: bad name list\n");
+pub fn refuse_names(rt: &HostRuntime) {
+    let words = b"refused: bad name list\n";
+    write_to(&rt.stderr(), words, words.len());
 }
 
 // "refused: KIND, at PLACE", in one write, so that the lines of another program on the same terminal do not fall into it.
-pub fn refuse(kind: &[u8], place: u64) {
+pub fn refuse(rt: &HostRuntime, kind: &[u8], place: u64) {
     let mut line = [0u8; LINE];
     let mut end = put(&mut line, 0, b"refused: ");
     end = put(&mut line, end, kind);
     end = put(&mut line, end, b", at ");
     end = put_number(&mut line, end, place);
     end = put(&mut line, end, b"\n");
-    write_to(STDERR_FILENO, &line, end);
+    write_to(&rt.stderr(), &line, end);
 }

@@ -11,7 +11,7 @@ ghost use Rattle.std.specs.Prelude.{◌<◌, ◌≤◌};
 ghost use Rattle.bodies.specs.Sound.{Sound};
 ghost use Rattle.meaning.specs.Table.{table_of};
 
-use libc::{STDIN_FILENO, STDOUT_FILENO};
+use std::io::Print;
 use table::{Reading, Refusal};
 
 // A try a line: n of the table, the bytes that are read, the byte that is set, and its value. (Byte 2 is 0 already.)
@@ -64,13 +64,12 @@ const TRIES: [[u64; 4]; 41] = [
     [64, 6333, 6332, 1],
 ];
 
-fn say(words: &[u8]) {
-    io::write_all(STDOUT_FILENO, words);
+fn say(rt: &impl Print, words: &str) {
+    let _ = print!(rt; "{words}");
 }
 
-fn say_number(words: &[u8], x: u64) {
-    say(words);
-    io::print_decimal(STDOUT_FILENO, x);
+fn say_number(rt: &impl Print, words: &str, x: u64) {
+    let _ = print!(rt; "{words}{x}");
 }
 
 // Sets a byte of the file, where it has that byte.
@@ -104,120 +103,124 @@ fn put_contents(file: &mut [u8], n: u64) {
     }
 }
 
-fn say_taken(n: u64, k: u64) {
-    say_number(b"taken ", n);
-    say_number(b" ", k);
+fn say_taken(rt: &impl Print, n: u64, k: u64) {
+    say_number(rt, "taken ", n);
+    say_number(rt, " ", k);
 }
 
-fn say_refused(why: Refusal) {
-    say_number(b"refused ", why.number());
+fn say_refused(rt: &impl Print, why: Refusal) {
+    say_number(rt, "refused ", why.number());
     if why.part() > 0 {
-        say_number(b" place ", why.part());
-        say_number(b" ", why.inside());
+        say_number(rt, " place ", why.part());
+        say_number(rt, " ", why.inside());
     }
 }
 
-fn answer(file: &[u8]) {
+fn answer(rt: &impl Print, file: &[u8]) {
     match table::read(file) {
-        Reading::Taken(n, k) => say_taken(n, k),
-        Reading::Refused(why) => say_refused(why),
+        Reading::Taken(n, k) => say_taken(rt, n, k),
+        Reading::Refused(why) => say_refused(rt, why),
     }
 }
 
-fn answer_front(file: &[u8], bytes: usize) {
+fn answer_front(rt: &impl Print, file: &[u8], bytes: usize) {
     if bytes <= file.len() {
-        answer(&file[..bytes]);
+        answer(rt, &file[..bytes]);
     }
 }
 
-fn say_try(n: u64, bytes: u64, at: u64, x: u64) {
-    say_number(b"n ", n);
-    say_number(b", ", bytes);
-    say_number(b" bytes, byte ", at);
-    say_number(b" = ", x);
-    say(b": ");
+fn say_try(rt: &impl Print, n: u64, bytes: u64, at: u64, x: u64) {
+    say_number(rt, "n ", n);
+    say_number(rt, ", ", bytes);
+    say_number(rt, " bytes, byte ", at);
+    say_number(rt, " = ", x);
+    say(rt, ": ");
 }
 
-fn try_table(n: u64, bytes: u64, at: u64, x: u64) {
+fn try_table(rt: &impl Print, n: u64, bytes: u64, at: u64, x: u64) {
     let mut file = [0u8; 6334];
     put_contents(&mut file, n);
     put(&mut file, at, x);
-    say_try(n, bytes, at, x);
-    answer_front(&file, bytes as usize);
-    say(b"\n");
+    say_try(rt, n, bytes, at, x);
+    answer_front(rt, &file, bytes as usize);
+    say(rt, "\n");
 }
 
-fn try_all() {
+fn try_all(rt: &impl Print) {
     let tries = TRIES;
     let mut i = 0;
     while i < 41 {
         let row = tries[i];
-        try_table(row[0], row[1], row[2], row[3]);
+        try_table(rt, row[0], row[1], row[2], row[3]);
         i += 1;
     }
 }
 
 // T, acc(1), and the sets at the start.
-fn show_start(table: &[u8], accs: &[u64; 64], trees: u64)
+fn show_start(rt: &impl Print, table: &[u8], accs: &[u64; 64], trees: u64)
     requires { Sound table.now }
 {
     let n = table::states(table);
-    say_number(b"T ", trees);
-    say_number(b", acc(1) ", accs[1]);
-    say_number(b", at start ", sets::safe(n, accs, sets::ends(table, true)));
-    say_number(b" and ", sets::safe(n, accs, sets::ends(table, false)));
-    say(b"\n");
+    say_number(rt, "T ", trees);
+    say_number(rt, ", acc(1) ", accs[1]);
+    say_number(
+        rt,
+        ", at start ",
+        sets::safe(n, accs, sets::ends(table, true)),
+    );
+    say_number(rt, " and ", sets::safe(n, accs, sets::ends(table, false)));
+    say(rt, "\n");
 }
 
-fn say_down(words: &[u8], table: &[u8], accs: &[u64; 64], q: u64, x: u64)
+fn say_down(rt: &impl Print, words: &str, table: &[u8], accs: &[u64; 64], q: u64, x: u64)
     requires sound { Sound table.now }
     requires q_bound { q < (table_of table.now).states }
 {
-    say_number(words, sets::down(table, accs, q, x));
+    say_number(rt, words, sets::down(table, accs, q, x));
 }
 
 // down of the first three states, over W's sets at the start.
-fn show_downs(table: &[u8], accs: &[u64; 64])
+fn show_downs(rt: &impl Print, table: &[u8], accs: &[u64; 64])
     requires sound { Sound table.now }
     requires bound { 3 ≤ (table_of table.now).states }
 {
-    say_down(b"down(0,4) ", table, accs, 0, 4);
-    say_down(b", down(0,25) ", table, accs, 0, 25);
-    say_down(b", down(1,25) ", table, accs, 1, 25);
-    say_down(b", down(2,4) ", table, accs, 2, 4);
-    say(b"\n");
+    say_down(rt, "down(0,4) ", table, accs, 0, 4);
+    say_down(rt, ", down(0,25) ", table, accs, 0, 25);
+    say_down(rt, ", down(1,25) ", table, accs, 1, 25);
+    say_down(rt, ", down(2,4) ", table, accs, 2, 4);
+    say(rt, "\n");
 }
 
-fn show(table: &[u8])
+fn show(rt: &impl Print, table: &[u8])
     requires sound { Sound table.now }
     requires bound { 3 ≤ (table_of table.now).states }
 {
     let trees = sets::trees(table);
     let accs = sets::accs(table, trees);
-    show_start(table, &accs, trees);
-    show_downs(table, &accs);
+    show_start(rt, table, &accs, trees);
+    show_downs(rt, table, &accs);
 }
 
 // The sets of a table with at least three states: what `read` answers is all that the steps ask for.
-fn show_file(file: &[u8]) {
+fn show_file(rt: &impl Print, file: &[u8]) {
     if let Reading::Taken(n, _) = table::read(file) {
         if 3 <= n {
-            show(file);
+            show(rt, file);
         }
     }
 }
 
 // What `read` answers of the file, and its sets.
-fn judge(file: &[u8]) {
-    say(b"standard input: ");
-    answer(file);
-    say(b"\n");
-    show_file(file);
+fn judge(rt: &impl Print, file: &[u8]) {
+    say(rt, "standard input: ");
+    answer(rt, file);
+    say(rt, "\n");
+    show_file(rt, file);
 }
 
-fn main() {
-    try_all();
+fn main(rt: HostRuntime) {
+    try_all(&rt);
     let mut file = [0u8; 6334];
-    let bytes = io::read_full(STDIN_FILENO, &mut file);
-    judge(&file[..bytes]);
+    let bytes = pipes::read_full(&mut rt.stdin(), &mut file);
+    judge(&rt, &file[..bytes]);
 }

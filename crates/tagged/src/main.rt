@@ -9,7 +9,7 @@
 #![tactic(auto)]
 
 use grammar::{Fault, Stop};
-use libc::{STDIN_FILENO, STDOUT_FILENO};
+use pipes::BLOCK;
 use tags::reader::Cursor;
 
 // One byte more than the longest good list of names has, so that a longer one is seen to be longer.
@@ -24,49 +24,55 @@ struct Following {
 }
 
 // Says what is wrong, and where. The output is as long as a block, so that it is never short.
-fn refuse(fault: Fault, place: u64) {
+fn refuse(rt: &HostRuntime, fault: Fault, place: u64) {
     match fault {
-        Fault::Byte => pipes::refuse(b"byte not allowed", place),
-        Fault::Unknown => pipes::refuse(b"name unknown", place),
-        Fault::Closing => pipes::refuse(b"closing name not the open one or none open", place),
-        Fault::Ended => pipes::refuse(b"text ends with a tag or element open", place),
-        Fault::Deep => pipes::refuse(b"deeper than 40", place),
-        Fault::Short => pipes::refuse(b"output short", place),
+        Fault::Byte => pipes::refuse(rt, b"byte not allowed", place),
+        Fault::Unknown => pipes::refuse(rt, b"name unknown", place),
+        Fault::Closing => pipes::refuse(rt, b"closing name not the open one or none open", place),
+        Fault::Ended => pipes::refuse(rt, b"text ends with a tag or element open", place),
+        Fault::Deep => pipes::refuse(rt, b"deeper than 40", place),
+        Fault::Short => pipes::refuse(rt, b"output short", place),
     }
 }
 
 // Answers whether the text goes on at this place. Where it does not, says why.
-fn goes_on(stop: Stop, place: u64) -> bool {
+fn goes_on(rt: &HostRuntime, stop: Stop, place: u64) -> bool {
     match stop {
         Stop::Not => true,
         Stop::At(fault) => {
-            refuse(fault, place);
+            refuse(rt, fault, place);
             false
         }
     }
 }
 
 // A block of the text: its events are written out, and then the fault that stops it is told, where one does.
-fn follow_block(names: &[u8], was: Following, block: &[u8], out: &mut [u8]) -> Following {
+fn follow_block(
+    rt: &HostRuntime,
+    names: &[u8],
+    was: Following,
+    block: &[u8],
+    out: &mut [u8],
+) -> Following {
     let cursor = was.cursor;
     let fed = tags::reader::feed(names, cursor, block, out);
     let next = fed.next;
     let stop = fed.stop;
     let taken = pipes::later(was.taken, fed.taken);
-    let written = pipes::write_front(out, fed.given);
+    let written = pipes::write_front(rt, out, fed.given);
     Following {
         cursor: next,
         taken: taken,
-        goes_on: written && goes_on(stop, taken),
+        goes_on: written && goes_on(rt, stop, taken),
     }
 }
 
 // The text's end: byte 65, where nothing is open.
-fn end(was: Following) -> Following {
+fn end(rt: &HostRuntime, was: Following) -> Following {
     let cursor = was.cursor;
     let stop = tags::reader::end(cursor, 1);
-    if goes_on(stop, was.taken) {
-        io::write_all(STDOUT_FILENO, &[65]);
+    if goes_on(rt, stop, was.taken) {
+        pipes::write_front(rt, &[65], 1);
     }
     Following {
         cursor: cursor,
@@ -76,19 +82,25 @@ fn end(was: Following) -> Following {
 }
 
 // The next block of the text is read and followed.
-fn follow_some(names: &[u8], was: Following, block: &mut [u8], out: &mut [u8]) -> Following {
-    let bytes = io::count(libc::read(STDIN_FILENO, block), block);
+fn follow_some(
+    rt: &HostRuntime,
+    names: &[u8],
+    was: Following,
+    block: &mut [u8],
+    out: &mut [u8],
+) -> Following {
+    let bytes = pipes::read_some(&mut rt.stdin(), block);
     if bytes == 0 {
-        return end(was);
+        return end(rt, was);
     }
-    follow_block(names, was, &block[..bytes], out)
+    follow_block(rt, names, was, &block[..bytes], out)
 }
 
 // The whole text. A proved loop has to end, and nothing says that the input does; so it counts its turns down, from a
 // number that no run uses up.
-fn follow(names: &[u8]) {
-    let mut block = io::large_buffer();
-    let mut out = io::large_buffer();
+fn follow(rt: &HostRuntime, names: &[u8]) {
+    let mut block = [0u8; BLOCK];
+    let mut out = [0u8; BLOCK];
     let mut state = Following {
         cursor: Cursor::begin(),
         taken: 0,
@@ -96,18 +108,18 @@ fn follow(names: &[u8]) {
     };
     let mut turns = u64::MAX;
     while turns > 0 && state.goes_on {
-        state = follow_some(names, state, &mut block, &mut out);
+        state = follow_some(rt, names, state, &mut block, &mut out);
         turns -= 1;
     }
 }
 
-fn main() {
+fn main(rt: HostRuntime) {
     let mut file = [0u8; NAMES];
-    let size = pipes::load(b"names", &mut file);
+    let size = pipes::load(&rt, "names", &mut file);
     let names = &file[..size];
     if names::good(names) {
-        follow(names);
+        follow(&rt, names);
     } else {
-        pipes::refuse_names();
+        pipes::refuse_names(&rt);
     }
 }

@@ -14,10 +14,10 @@ mod putting;
 mod runs;
 mod tally;
 
-fn main() {
+fn main(rt: HostRuntime) {
     let mut desk = [0u64; 40];
     desk[making::SEED] = 88172645463325252;
     runs::try_every_byte(&mut desk);
     runs::try_lists(&mut desk);
-    tally::say_all(&desk);
+    tally::say_all(&rt, &desk);
 }

@@ -1,8 +1,8 @@
 // What was compared, in words of the desk: at 0 to 7 the texts of each kind of answer, at 8 to 11 the streams of each kind; then
 // lists, texts, pieces, streams, streams read back, streams in two pieces, streams that came back with a close labelled that was
 // not, streams that cannot go on at a labelled close, and what differed. From 22 on stands for each kind the furthest place.
-use libc::STDOUT_FILENO;
 use slices::{plus, put_word, word};
+use std::io::Print;
 
 // Where the kinds of streams begin.
 pub const WRITTEN: usize = 8;
@@ -53,51 +53,53 @@ pub fn note(desk: &mut [u64], kind: usize, place: usize, alike: bool) {
     check(desk, alike);
 }
 
-fn say(words: &[u8], x: u64) {
-    io::write_all(STDOUT_FILENO, words);
-    io::print_decimal(STDOUT_FILENO, x);
-    io::write_all(STDOUT_FILENO, b"\n");
+fn say(rt: &impl Print, words: &str, x: u64) {
+    let _ = println!(rt; "{words}{x}");
 }
 
 // How often a kind came, and its furthest place.
-fn say_kind(desk: &[u64], words: &[u8], kind: usize) {
-    io::write_all(STDOUT_FILENO, words);
-    io::print_decimal(STDOUT_FILENO, word(desk, kind));
-    say(b", the furthest at ", word(desk, plus(FURTHEST, kind)));
+fn say_kind(rt: &impl Print, desk: &[u64], words: &str, kind: usize) {
+    let count = word(desk, kind);
+    let furthest = word(desk, plus(FURTHEST, kind));
+    let _ = println!(rt; "{words}{count}, the furthest at {furthest}");
 }
 
-fn say_readings(desk: &[u64]) {
-    say(b"texts with bad names ", word(desk, 1));
-    say_kind(desk, b"byte not allowed ", 2);
-    say_kind(desk, b"name unknown ", 3);
-    say_kind(desk, b"closing name ", 4);
-    say_kind(desk, b"text ends ", 5);
-    say_kind(desk, b"deep ", 6);
-    say_kind(desk, b"output short ", 7);
+fn say_readings(rt: &impl Print, desk: &[u64]) {
+    say(rt, "texts with bad names ", word(desk, 1));
+    say_kind(rt, desk, "byte not allowed ", 2);
+    say_kind(rt, desk, "name unknown ", 3);
+    say_kind(rt, desk, "closing name ", 4);
+    say_kind(rt, desk, "text ends ", 5);
+    say_kind(rt, desk, "deep ", 6);
+    say_kind(rt, desk, "output short ", 7);
 }
 
-fn say_writings(desk: &[u64]) {
-    say(b"streams taken ", word(desk, WRITTEN));
-    say(b"streams with bad names ", word(desk, 9));
-    say_kind(desk, b"cannot go on ", 10);
-    say(b"of these at a labelled close ", word(desk, AT_LABELLED));
-    say(b"text short ", word(desk, 11));
+fn say_writings(rt: &impl Print, desk: &[u64]) {
+    say(rt, "streams taken ", word(desk, WRITTEN));
+    say(rt, "streams with bad names ", word(desk, 9));
+    say_kind(rt, desk, "cannot go on ", 10);
+    say(rt, "of these at a labelled close ", word(desk, AT_LABELLED));
+    say(rt, "text short ", word(desk, 11));
 }
 
-fn say_counts(desk: &[u64]) {
-    say(b"name lists ", word(desk, LISTS));
-    say(b"texts ", word(desk, TEXTS));
-    say(b"pieces ", word(desk, PIECES));
-    say(b"streams ", word(desk, STREAMS));
-    say(b"in two pieces ", word(desk, PUT));
-    say(b"read back ", word(desk, AGAIN));
-    say(b"of these with closes labelled ", word(desk, BACK_LABELLED));
-    say(b"texts taken ", word(desk, 0));
+fn say_counts(rt: &impl Print, desk: &[u64]) {
+    say(rt, "name lists ", word(desk, LISTS));
+    say(rt, "texts ", word(desk, TEXTS));
+    say(rt, "pieces ", word(desk, PIECES));
+    say(rt, "streams ", word(desk, STREAMS));
+    say(rt, "in two pieces ", word(desk, PUT));
+    say(rt, "read back ", word(desk, AGAIN));
+    say(
+        rt,
+        "of these with closes labelled ",
+        word(desk, BACK_LABELLED),
+    );
+    say(rt, "texts taken ", word(desk, 0));
 }
 
-pub fn say_all(desk: &[u64]) {
-    say_counts(desk);
-    say_readings(desk);
-    say_writings(desk);
-    say(b"differed ", word(desk, DIFFERED));
+pub fn say_all(rt: &impl Print, desk: &[u64]) {
+    say_counts(rt, desk);
+    say_readings(rt, desk);
+    say_writings(rt, desk);
+    say(rt, "differed ", word(desk, DIFFERED));
 }

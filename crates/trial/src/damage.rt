@@ -3,7 +3,7 @@
 // The second evaluator says by which of 1 to 14 and 16 the call has to be refused, and at which place: 3 and 5 in the file, 7 in
 // memory. Where it says none, memory that no run left may be stepped as it stands: then the watch takes the call, or refuses
 // it by 15, and of a call that is taken the words of the levels are compared, and nothing else.
-use crate::{memory, tally};
+use crate::{lent_memory, tally};
 use engine::{Outcome, Record};
 use making::{between, draw, is_one_in};
 use second::{Claim, Found};
@@ -182,12 +182,12 @@ fn is_placed(outcome: Outcome, must: Found) -> bool {
 
 // An event call that was refused kept its record, and wrote no reports.
 fn is_kept(record: Record, next: Record, reports: &[u32]) -> bool {
-    is_record(next, claim_of(record)) & memory::reports_are(reports, &[], 0)
+    is_record(next, claim_of(record)) & lent_memory::reports_are(reports, &[], 0)
 }
 
 // The words of the levels that a taken event must leave, of memory as it stands.
 fn levels_after(record: Record, work: &[u64], byte: u8) -> [u64; 40] {
-    let mut levels = memory::levels_in(work, record.allowed);
+    let mut levels = lent_memory::levels_in(work, record.allowed);
     second::step_levels(&mut levels, record.depth as usize, byte as usize);
     levels
 }
@@ -203,12 +203,12 @@ fn call(
 ) -> bool {
     let must = second::call_refusal(file, claim_of(record), work, reports.len(), byte as usize);
     let next = levels_after(record, work, byte);
-    memory::blank(reports);
+    lent_memory::blank(reports);
     let answer = engine::event(file, record, work, reports, byte);
     let outcome = answer.outcome;
     let number = outcome.number();
     let taken = number == 0;
-    let stepped = !taken | memory::has_levels(work, record.allowed, &next);
+    let stepped = !taken | lent_memory::has_levels(work, record.allowed, &next);
     let named = (number == must.number) | (number == 15) & (must.number == 0);
     let placed = is_placed(outcome, must);
     let kept = taken | is_kept(record, answer.next, reports);
@@ -288,7 +288,7 @@ pub fn try_damaged(
     byte: u8,
 ) {
     let harm = draw_harm(desk, file.len(), work.len(), reports.len(), record);
-    let mut copy = memory::copy_of(work);
+    let mut copy = lent_memory::copy_of(work);
     let taken = call_damaged(
         file,
         slices::front_words(&mut copy, work.len()),
@@ -304,7 +304,7 @@ pub fn try_damaged(
 // The start call, against what the second evaluator says of it. Answers the record.
 pub fn start(file: &[u8], rows: u64, depth: u64, work: &mut [u64], desk: &mut [u64]) -> Record {
     let must = second::start_refusal(file, rows, depth, work.len());
-    let copy = memory::copy_of(work);
+    let copy = lent_memory::copy_of(work);
     let answer = engine::start(file, rows, depth, work);
     let outcome = answer.outcome;
     let number = outcome.number();
@@ -315,7 +315,7 @@ pub fn start(file: &[u8], rows: u64, depth: u64, work: &mut [u64], desk: &mut [u
         second::begin(0, 0, 0, 0, 0)
     };
     let is_first = is_record(answer.next, begun.claim);
-    let is_clear = (number != 0) | memory::has_levels(work, depth, &[0; 40]);
+    let is_clear = (number != 0) | lent_memory::has_levels(work, depth, &[0; 40]);
     let named = (number == must.number) & is_placed(outcome, must);
     tally::note(
         desk,

@@ -1,5 +1,5 @@
 // Streams followed by both sides, event by event.
-use crate::{damage, memory, tally};
+use crate::{damage, lent_memory, tally};
 use engine::{Answer, Outcome, Record};
 use making::{between, draw, is_one_in};
 use second::{Said, Seen};
@@ -107,7 +107,7 @@ fn is_as_said(answer: Answer, reports: &[u32], must: &[u32], said: Said) -> bool
     let outcome = answer.outcome;
     let seen = said.seen;
     let counted = count_of(outcome) == said.reports as u64;
-    let told = memory::reports_are(reports, must, said.reports);
+    let told = lent_memory::reports_are(reports, must, said.reports);
     let next = damage::is_record(answer.next, seen.claim);
     (outcome.number() == said.number) & counted & told & next
 }
@@ -117,7 +117,7 @@ fn has_levels(book: &[u8], work: &[u64], seen: Seen) -> bool {
     let claim = seen.claim;
     let mut must = [0u64; 40];
     seen.put_levels(book, &mut must);
-    memory::has_levels(work, claim.allowed, &must)
+    lent_memory::has_levels(work, claim.allowed, &must)
 }
 
 // The event call, against what the second evaluator said of it. Answers the next record.
@@ -132,8 +132,8 @@ fn compare(
     said: Said,
     byte: u8,
 ) -> Record {
-    let copy = memory::copy_of(work);
-    memory::blank(reports);
+    let copy = lent_memory::copy_of(work);
+    lent_memory::blank(reports);
     let answer = engine::event(file, record, work, reports, byte);
     let outcome = answer.outcome;
     let number = outcome.number();
@@ -341,7 +341,7 @@ fn try_stream(file: &mut [u8], book: &mut [u8], reach: &[u64], desk: &mut [u64])
     let mut work = [12297829382473034410u64; 8100];
     let mut reports = [0u32; 72];
     let sizes = draw_sizes(desk);
-    let front = slices::front_words(&mut work, memory::work_words(sizes.rows, sizes.depth));
+    let front = slices::front_words(&mut work, lent_memory::work_words(sizes.rows, sizes.depth));
     let room = slices::front_reports(&mut reports, sizes.room);
     begin_stream(file, book, reach, &mut must, front, room, desk, sizes);
     damage::try_starts(file, &mut work, desk);

@@ -9,17 +9,15 @@
 
 mod damage;
 mod events;
-mod memory;
+mod lent_memory;
 mod tally;
 
-use libc::STDIN_FILENO;
-
-fn main() {
+fn main(rt: HostRuntime) {
     let mut given = [0u8; 16384];
-    let bytes = io::read_full(STDIN_FILENO, &mut given);
+    let bytes = pipes::read_full(&mut rt.stdin(), &mut given);
     let mut desk = [0u64; 26];
     desk[making::SEED] = 88172645463325252;
     events::try_given(&given[..bytes], &mut desk);
     events::try_made(&mut desk);
-    tally::say_all(&desk);
+    tally::say_all(&rt, &desk);
 }

@@ -1,8 +1,8 @@
 // What was compared, in words of the desk: at 0 to 16 the refusals of each number (0: taken), of starts, events and damaged
 // calls together; then tables, starts, events, reports, what differed, damaged calls, and of starts and of damaged calls how
 // many were refused 3 or 5, whose places in the file were compared.
-use libc::STDOUT_FILENO;
 use slices::{put_word, word};
+use std::io::Print;
 
 pub const TABLES: usize = 17;
 
@@ -50,35 +50,31 @@ pub fn note(desk: &mut [u64], kind: usize, number: u64, alike: bool) {
     add(desk, DIFFERED, !alike as u64);
 }
 
-fn say(words: &[u8], x: u64) {
-    io::write_all(STDOUT_FILENO, words);
-    io::print_decimal(STDOUT_FILENO, x);
-    io::write_all(STDOUT_FILENO, b"\n");
+fn say(rt: &impl Print, words: &str, x: u64) {
+    let _ = println!(rt; "{words}{x}");
 }
 
-fn say_refusal(number: usize, x: u64) {
-    io::write_all(STDOUT_FILENO, b"refused ");
-    io::print_decimal(STDOUT_FILENO, number as u64);
-    say(b": ", x);
+fn say_refusal(rt: &impl Print, number: usize, x: u64) {
+    let _ = println!(rt; "refused {number}: {x}");
 }
 
-fn say_refusals(desk: &[u64]) {
+fn say_refusals(rt: &impl Print, desk: &[u64]) {
     let mut i = 1;
     while i < 17 {
-        say_refusal(i, word(desk, i));
+        say_refusal(rt, i, word(desk, i));
         i += 1;
     }
 }
 
-pub fn say_all(desk: &[u64]) {
-    say(b"tables ", word(desk, TABLES));
-    say(b"starts ", word(desk, STARTS));
-    say(b"events ", word(desk, EVENTS));
-    say(b"damaged calls ", word(desk, DAMAGED));
-    say(b"reports ", word(desk, REPORTS));
-    say(b"taken ", word(desk, 0));
-    say_refusals(desk);
-    say(b"places of starts ", word(desk, START_PLACES));
-    say(b"places of damaged calls ", word(desk, DAMAGED_PLACES));
-    say(b"differed ", word(desk, DIFFERED));
+pub fn say_all(rt: &impl Print, desk: &[u64]) {
+    say(rt, "tables ", word(desk, TABLES));
+    say(rt, "starts ", word(desk, STARTS));
+    say(rt, "events ", word(desk, EVENTS));
+    say(rt, "damaged calls ", word(desk, DAMAGED));
+    say(rt, "reports ", word(desk, REPORTS));
+    say(rt, "taken ", word(desk, 0));
+    say_refusals(rt, desk);
+    say(rt, "places of starts ", word(desk, START_PLACES));
+    say(rt, "places of damaged calls ", word(desk, DAMAGED_PLACES));
+    say(rt, "differed ", word(desk, DIFFERED));
 }

@@ -8,7 +8,6 @@
 #![tactic(auto)]
 
 use grammar::{Fault, Stop};
-use libc::STDIN_FILENO;
 use tags::writer::Scribe;
 
 // One byte more than the longest good list of names has, so that a longer one is seen to be longer.
@@ -29,19 +28,19 @@ struct Following {
 }
 
 // Says that no whole stream goes on at this place. The output has room for a block's tags, so that it is never short.
-fn refuse(fault: Fault, place: u64) {
+fn refuse(rt: &HostRuntime, fault: Fault, place: u64) {
     match fault {
-        Fault::Short => pipes::refuse(b"output short", place),
-        _ => pipes::refuse(b"no whole stream goes on", place),
+        Fault::Short => pipes::refuse(rt, b"output short", place),
+        _ => pipes::refuse(rt, b"no whole stream goes on", place),
     }
 }
 
 // Answers whether the stream goes on at this place. Where it does not, says why.
-fn goes_on(stop: Stop, place: u64) -> bool {
+fn goes_on(rt: &HostRuntime, stop: Stop, place: u64) -> bool {
     match stop {
         Stop::Not => true,
         Stop::At(fault) => {
-            refuse(fault, place);
+            refuse(rt, fault, place);
             false
         }
     }
@@ -49,24 +48,30 @@ fn goes_on(stop: Stop, place: u64) -> bool {
 
 // A block of events: their tags are written out, and then the fault that stops it is told, where one does. What follows a
 // taken 65 is no fault.
-fn follow_block(names: &[u8], was: Following, block: &[u8], out: &mut [u8]) -> Following {
+fn follow_block(
+    rt: &HostRuntime,
+    names: &[u8],
+    was: Following,
+    block: &[u8],
+    out: &mut [u8],
+) -> Following {
     let scribe = was.scribe;
     let wrote = tags::writer::put_events(names, scribe, block, out);
     let next = wrote.next;
     let stop = wrote.stop;
     let taken = pipes::later(was.taken, wrote.taken);
-    let written = pipes::write_front(out, wrote.given);
+    let written = pipes::write_front(rt, out, wrote.given);
     Following {
         scribe: next,
         taken: taken,
-        goes_on: written && !next.ended && goes_on(stop, taken),
+        goes_on: written && !next.ended && goes_on(rt, stop, taken),
     }
 }
 
 // The input's end: there was no 65, or nothing more would have been read.
-fn end(was: Following) -> Following {
+fn end(rt: &HostRuntime, was: Following) -> Following {
     let scribe = was.scribe;
-    refuse(Fault::Byte, was.taken);
+    refuse(rt, Fault::Byte, was.taken);
     Following {
         scribe: scribe,
         taken: was.taken,
@@ -75,17 +80,23 @@ fn end(was: Following) -> Following {
 }
 
 // The next block of events is read and followed.
-fn follow_some(names: &[u8], was: Following, block: &mut [u8], out: &mut [u8]) -> Following {
-    let bytes = io::count(libc::read(STDIN_FILENO, block), block);
+fn follow_some(
+    rt: &HostRuntime,
+    names: &[u8],
+    was: Following,
+    block: &mut [u8],
+    out: &mut [u8],
+) -> Following {
+    let bytes = pipes::read_some(&mut rt.stdin(), block);
     if bytes == 0 {
-        return end(was);
+        return end(rt, was);
     }
-    follow_block(names, was, &block[..bytes], out)
+    follow_block(rt, names, was, &block[..bytes], out)
 }
 
 // The whole stream. A proved loop has to end, and nothing says that the input does; so it counts its turns down, from a
 // number that no run uses up.
-fn follow(names: &[u8]) {
+fn follow(rt: &HostRuntime, names: &[u8]) {
     let mut block = [0u8; BLOCK];
     let mut out = [0u8; TAGS];
     let mut state = Following {
@@ -95,18 +106,18 @@ fn follow(names: &[u8]) {
     };
     let mut turns = u64::MAX;
     while turns > 0 && state.goes_on {
-        state = follow_some(names, state, &mut block, &mut out);
+        state = follow_some(rt, names, state, &mut block, &mut out);
         turns -= 1;
     }
 }
 
-fn main() {
+fn main(rt: HostRuntime) {
     let mut file = [0u8; NAMES];
-    let size = pipes::load(b"names", &mut file);
+    let size = pipes::load(&rt, "names", &mut file);
     let names = &file[..size];
     if names::good(names) {
-        follow(names);
+        follow(&rt, names);
     } else {
-        pipes::refuse_names();
+        pipes::refuse_names(&rt);
     }
 }

@@ -7,7 +7,7 @@
 #![tactic(auto)]
 
 use engine::{Outcome, Record, Refusal};
-use libc::STDIN_FILENO;
+use pipes::BLOCK;
 use table::Field;
 
 // More than the lines of one event take: at most 65 of at most 41 bytes, and a last one.
@@ -117,8 +117,8 @@ fn put_refusal(out: &mut [u8], at: usize, why: Refusal, event: u64) -> usize {
 }
 
 // Writes out what waits. Where that fails, nothing more is read or written.
-fn write_out(out: &[u8], was: Following) -> Following {
-    let written = pipes::write_front(out, was.waiting);
+fn write_out(rt: &HostRuntime, out: &[u8], was: Following) -> Following {
+    let written = pipes::write_front(rt, out, was.waiting);
     Following {
         record: was.record,
         events: was.events,
@@ -128,11 +128,11 @@ fn write_out(out: &[u8], was: Following) -> Following {
 }
 
 // Writes out what waits, where less room is left than the lines of one event can take.
-fn make_room(out: &[u8], was: Following) -> Following {
+fn make_room(rt: &HostRuntime, out: &[u8], was: Following) -> Following {
     if was.waiting < out.len() && EVENT_LINES < out.len() - was.waiting {
         was
     } else {
-        write_out(out, was)
+        write_out(rt, out, was)
     }
 }
 
@@ -178,6 +178,7 @@ fn follow_event(
 
 // One event byte, and room made for the lines of the next.
 fn follow_byte(
+    rt: &HostRuntime,
     table: &[u8],
     was: Following,
     work: &mut [u64],
@@ -186,11 +187,12 @@ fn follow_byte(
     byte: u8,
 ) -> Following {
     let state = follow_event(table, was, work, reports, out, byte);
-    make_room(out, state)
+    make_room(rt, out, state)
 }
 
 // The bytes of a block, up to the one that ends the watch.
 fn follow_block(
+    rt: &HostRuntime,
     table: &[u8],
     was: Following,
     work: &mut [u64],
@@ -201,7 +203,7 @@ fn follow_block(
     let mut state = was;
     let mut i = 0;
     while i < block.len() && state.goes_on {
-        state = follow_byte(table, state, work, reports, out, block[i]);
+        state = follow_byte(rt, table, state, work, reports, out, block[i]);
         i += 1;
     }
     state
@@ -210,6 +212,7 @@ fn follow_block(
 // What waits is written out, then the next block of input is read and followed. At the end of the input the last line is
 // "cut".
 fn follow_some(
+    rt: &HostRuntime,
     table: &[u8],
     was: Following,
     work: &mut [u64],
@@ -217,24 +220,31 @@ fn follow_some(
     out: &mut [u8],
     block: &mut [u8],
 ) -> Following {
-    let mut state = write_out(out, was);
+    let mut state = write_out(rt, out, was);
     if !state.goes_on {
         return state;
     }
-    let bytes = io::count(libc::read(STDIN_FILENO, block), block);
+    let bytes = pipes::read_some(&mut rt.stdin(), block);
     if bytes == 0 {
         state.waiting = put_total(out, 0, b"cut ", state.events, state.record.positions);
         state.goes_on = false;
         return state;
     }
-    follow_block(table, state, work, reports, out, &block[..bytes])
+    follow_block(rt, table, state, work, reports, out, &block[..bytes])
 }
 
 // The whole stream. A proved loop has to end, and nothing says that the input does; so it counts its turns down, from a
 // number that no run uses up.
-fn follow(table: &[u8], record: Record, work: &mut [u64], out: &mut [u8], waiting: usize) {
+fn follow(
+    rt: &HostRuntime,
+    table: &[u8],
+    record: Record,
+    work: &mut [u64],
+    out: &mut [u8],
+    waiting: usize,
+) {
     let mut reports = [0u32; 65];
-    let mut block = io::large_buffer();
+    let mut block = [0u8; BLOCK];
     let mut state = Following {
         record: record,
         events: 0,
@@ -243,15 +253,15 @@ fn follow(table: &[u8], record: Record, work: &mut [u64], out: &mut [u8], waitin
     };
     let mut turns = u64::MAX;
     while turns > 0 && state.goes_on {
-        state = follow_some(table, state, work, &mut reports, out, &mut block);
+        state = follow_some(rt, table, state, work, &mut reports, out, &mut block);
         turns -= 1;
     }
-    pipes::write_front(out, state.waiting);
+    pipes::write_front(rt, out, state.waiting);
 }
 
 // The watch over a table.
-fn watch(table: &[u8]) {
-    let mut out = io::large_buffer();
+fn watch(rt: &HostRuntime, table: &[u8]) {
+    let mut out = [0u8; BLOCK];
     let mut work = [0u64; 8100];
     let waiting = pipes::put(&mut out, 0, b"event verdict position\n");
     let answer = engine::start(table, 64, 40, &mut work);
@@ -259,15 +269,15 @@ fn watch(table: &[u8]) {
     match outcome {
         Outcome::Refused(why) => {
             let end = put_refusal(&mut out, waiting, why, 0);
-            pipes::write_front(&out, end);
+            pipes::write_front(rt, &out, end);
         }
-        Outcome::Taken(_) => follow(table, answer.next, &mut work, &mut out, waiting),
+        Outcome::Taken(_) => follow(rt, table, answer.next, &mut work, &mut out, waiting),
     }
 }
 
 // A table file that cannot be opened or read counts as empty.
-fn main() {
+fn main(rt: HostRuntime) {
     let mut file = [0u8; 6334];
-    let size = pipes::load(b"table", &mut file);
-    watch(&file[..size]);
+    let size = pipes::load(&rt, "table", &mut file);
+    watch(&rt, &file[..size]);
 }

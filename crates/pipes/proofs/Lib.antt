@@ -1,0 +1,2 @@
+-- Lemmas of `pipes`.
+mod Parts

@@ -1,0 +1,2 @@
+-- What the contracts of `pipes` cite.
+pub mod Counts
