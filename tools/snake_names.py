@@ -22,7 +22,7 @@ TOKEN = re.compile(r"(?<![\w'◌-])[A-Za-z][\w'-]*(?![\w'◌])")
 GHOST = re.compile(r"(?m)^ *ghost use [^;]*;|^ *(?:pub )?ghost [^;{]*[;{][^}]*\}?|\b(?:requires|ensures)\*?(?: \w+)? \{.*\}$")
 
 # What would otherwise fall together with a word of another library or with a definition, and is neither lemma nor definition.
-APART = {"start-in": "start_is_in", "bit-and": "bit_and_lem", "bit-or": "bit_or_lem"}
+APART = {"start-in": "start_is_in", "start-work": "started_work", "bit-and": "bit_and_lem", "bit-or": "bit_or_lem"}
 # Lemmas that the kit's script had already turned to the spelling of a definition.
 LEMMAS = ["row_in", "row_words", "left_over", "left_after", "position_at", "has_room", "labels_in"]
 

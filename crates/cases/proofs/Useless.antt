@@ -72,7 +72,7 @@ others = (refl, refl, refl, refl)
 
 -- There are programs that meet the contracts.
 abbrev pub ours : Program
-ours = record { start = start_answer; start_work_lem = start_work; event = event_answer; work = event_work; reports = event_reports }
+ours = record { start = start_answer; started_work = start_work; event = event_answer; work = event_work; reports = event_reports }
 
 pub ours_meets : Meets ours
 ours_meets =

@@ -12,7 +12,7 @@ use Rattle.demands.specs.Watching.{count_of}
 -- Any program for the two calls: what it answers, and what it leaves in lent memory.
 pub record Program : Type 0 where
   pub start : List ℕ → ℕ → ℕ → List ℕ → Answer
-  pub start_work_lem : List ℕ → ℕ → ℕ → List ℕ → List ℕ
+  pub started_work : List ℕ → ℕ → ℕ → List ℕ → List ℕ
   pub event : List ℕ → Record → List ℕ → List ℕ → ℕ → Answer
   pub work : List ℕ → Record → List ℕ → List ℕ → ℕ → List ℕ
   pub reports : List ℕ → Record → List ℕ → List ℕ → ℕ → List ℕ
@@ -20,7 +20,7 @@ pub record Program : Type 0 where
 -- A program that meets the contracts of `start` and `event`.
 pub record Meets (p : Program) : Type 0 where
   pub start_is : (f : List ℕ) (rows depth : ℕ) (work : List ℕ) → p.start f rows depth work ≡ start_answer f rows depth work
-  pub start_work_is : (f : List ℕ) (rows depth : ℕ) (work : List ℕ) → p.start_work_lem f rows depth work ≡ start_work f rows depth work
+  pub start_work_is : (f : List ℕ) (rows depth : ℕ) (work : List ℕ) → p.started_work f rows depth work ≡ start_work f rows depth work
   pub event_is :
       (f : List ℕ) (r : Record) (work reports : List ℕ) (byte : ℕ) → p.event f r work reports byte ≡ event_answer f r work reports byte
   pub work_is :
