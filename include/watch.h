@@ -1,4 +1,4 @@
-/* The watch's two calls. Link with liblink.a, which `rt staticlib link` builds.
+/* The watch's two calls. Link with liblink.a, which `rt lib` builds in crates/link (crates/link/out).
  *
  * A watch keeps nothing of its own: the caller lends the table, the record, work memory, the reports and the answer to
  * each call, and hands the same record and work memory to the next one.

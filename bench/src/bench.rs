@@ -1,7 +1,7 @@
 //! The benchmarks: events per second and instructions per event of the library, of the program `watch` and of the expert's
 //! engine and program, on the same streams in one run, and how cost grows with n, rows and depth.
 //!
-//! Assumed: run at the repository's root by bench/run, which has compiled it; valgrind is there; target/bin/watch is built.
+//! Assumed: run at the repository's root by bench/run, which has compiled it; valgrind is there; crates/watch/out/watch is built.
 //!
 //! bench                              everything
 //! bench calls library|engine NAME N  the case of that name with N turns, for callgrind

@@ -105,7 +105,7 @@ pub fn own_path() -> String {
 
 /// The program `watch` and the expert's.
 pub fn programs() -> [Program; 2] {
-    let watch = fs::canonicalize("target/bin/watch").unwrap();
+    let watch = fs::canonicalize("crates/watch/out/watch").unwrap();
     [vec![watch.to_string_lossy().into_owned()], vec![own_path(), "program".into()]]
 }
 
