@@ -100,8 +100,8 @@ record Beside (f : List ℕ) (rows depth rows' depth' : ℕ) (s s' : Watching) :
   same_stream : s.stream ≡ s'.stream
   same_told : s.reports ≡ s'.reports
 
-module _ (f : List ℕ) (rows depth rows' depth' : ℕ) (more_rows : rows ≤ rows') (more-depth : depth ≤ depth') (s s' : Watching)
-    (beside : Beside f rows depth rows' depth' s s') (c c' : Call) (byte-same : c.byte ≡ c'.byte)
+module _ (f : List ℕ) (rows depth rows' depth' : ℕ) (more_rows : rows ≤ rows') (more_depth : depth ≤ depth') (s s' : Watching)
+    (beside : Beside f rows depth rows' depth' s s') (c c' : Call) (byte_same : c.byte ≡ c'.byte)
     (lent_same : ltb (length c.lent) (rows + 1) ≡ ltb (length c'.lent) (rows' + 1)) where
   abbrev t : Table
   t = table_of f
@@ -154,7 +154,7 @@ module _ (f : List ℕ) (rows depth rows' depth' : ℕ) (more_rows : rows ≤ ro
       over' = (numbers_now f rows' depth' s' beside.other).3 ∙ same_ended
 
       deeper : s.now.allowed ≤ s'.now.allowed
-      deeper = omega (arith, more-depth, (numbers_now f rows depth s beside.one).1, (numbers_now f rows' depth' s' beside.other).1)
+      deeper = omega (arith, more_depth, (numbers_now f rows depth s beside.one).1, (numbers_now f rows' depth' s' beside.other).1)
 
       roomier : s.now.rows ≤ s'.now.rows
       roomier = omega (arith, more_rows, (numbers_now f rows depth s beside.one).0, (numbers_now f rows' depth' s' beside.other).0)
@@ -190,24 +190,24 @@ module _ (f : List ℕ) (rows depth rows' depth' : ℕ) (more_rows : rows ≤ ro
   same_judged : ¬ Wants (judged_of f s c) → judged_of f s c ≡ judged_of f s' c'
   same_judged h =
       looser_first looser Fine h
-      ∙ ap (λ b. first_of (lines f s'.now s'.work (length c'.lent) (meaning_of b)) Fine) byte-same
+      ∙ ap (λ b. first_of (lines f s'.now s'.work (length c'.lent) (meaning_of b)) Fine) byte_same
 
   same_told_now : judged_of f s c ≡ Fine → (after_of f s c).reports ≡ (after_of f s' c').reports
   same_told_now fine =
       let going = going_on f rows depth s beside.one c (early f rows depth s beside.one c fine) in
       (step_same t s.now s'.now s.work s'.work (same_rows going) same_positions (meaning_of c.byte)).1
-      ∙ ap (λ b. (taking t s'.now s'.work (meaning_of b)).reports) byte-same
+      ∙ ap (λ b. (taking t s'.now s'.work (meaning_of b)).reports) byte_same
 
   -- Both take or refuse the call alike, and have reported the same after it.
-  abbrev Same-next : Type 0
-  Same-next =
+  abbrev SameNext : Type 0
+  SameNext =
       (outcome_of f s c ≡ outcome_of f s' c') × (given f s c ≡ given f s' c') × Beside f rows depth rows' depth' (called f s c) (called f s' c')
 
   after_both : (called f s c).stream ≡ (called f s' c').stream → (called f s c).reports ≡ (called f s' c').reports → Beside f rows depth rows' depth' (called f s c) (called f s' c')
   after_both e told =
       record { one = follows_call f rows depth s beside.one c; other = follows_call f rows' depth' s' beside.other c'; same_stream = e; same_told = told }
 
-  taken_same : judged_of f s c ≡ Fine → judged_of f s' c' ≡ Fine → Same-next
+  taken_same : judged_of f s c ≡ Fine → judged_of f s' c' ≡ Fine → SameNext
   taken_same e e' =
       let told = same_told_now e in
       let x = taken_call f s c e in
@@ -217,7 +217,7 @@ module _ (f : List ℕ) (rows depth rows' depth' : ℕ) (more_rows : rows ≤ ro
         after_both
             (ap (λ (y : Watching). y.stream) x
             ∙ ap (λ (y : Stream). longer y (meaning_of c.byte)) beside.same_stream
-            ∙ ap (λ b. longer s'.stream (meaning_of b)) byte-same
+            ∙ ap (λ b. longer s'.stream (meaning_of b)) byte_same
             ∙ sym (ap (λ (y : Watching). y.stream) x'))
             (ap (λ (y : Watching). y.reports) x
             ∙ ap (λ rs. rs ++ ((after_of f s c).reports ∷ [])) beside.same_told
@@ -225,7 +225,7 @@ module _ (f : List ℕ) (rows depth rows' depth' : ℕ) (more_rows : rows ≤ ro
             ∙ sym (ap (λ (y : Watching). y.reports) x')),
       )
 
-  refused_same : (reason : Refusal) → judged_of f s c ≡ Refused reason → judged_of f s' c' ≡ Refused reason → Same-next
+  refused_same : (reason : Refusal) → judged_of f s c ≡ Refused reason → judged_of f s' c' ≡ Refused reason → SameNext
   refused_same reason e e' =
       let x = refused_call f s c reason e in
       let x' = refused_call f s' c' reason e' in (
@@ -235,23 +235,23 @@ module _ (f : List ℕ) (rows depth rows' depth' : ℕ) (more_rows : rows ≤ ro
             (ap (λ (y : Watching). y.reports) x ∙ beside.same_told ∙ sym (ap (λ (y : Watching). y.reports) x')),
       )
 
-  next_same : ¬ Wants (judged_of f s c) → Same-next
+  next_same : ¬ Wants (judged_of f s c) → SameNext
   next_same h = go (judged_of f s c) refl
     where
-      go : (j : Judged) → judged_of f s c ≡ j → Same-next
+      go : (j : Judged) → judged_of f s c ≡ j → SameNext
       go Fine e = taken_same e (sym (same_judged h) ∙ e)
       go (Refused reason) e = refused_same reason e (sym (same_judged h) ∙ e)
 
-module _ (f : List ℕ) (rows depth rows' depth' : ℕ) (more_rows : rows ≤ rows') (more-depth : depth ≤ depth') where
+module _ (f : List ℕ) (rows depth rows' depth' : ℕ) (more_rows : rows ≤ rows') (more_depth : depth ≤ depth') where
   calls_same :
       (cs cs' : List Call) → Alike rows rows' cs cs' → (s s' : Watching) → Beside f rows depth rows' depth' s s' → NoWant (told_all f s cs) →
       SameAnswers f s s' cs cs'
   calls_same [] [] room.none s s' beside free = record { same_told = refl; same_stream = beside.same_stream; same_reports = beside.same_told }
   calls_same [] (c' ∷ cs') alike s s' beside free = elim alike [ ]
   calls_same (c ∷ cs) [] alike s s' beside free = elim alike [ ]
-  calls_same (c ∷ cs) (c' ∷ cs') (room.over byte-same lent_same alike) s s' beside (room.over not-deep not-rows free) =
+  calls_same (c ∷ cs) (c' ∷ cs') (room.over byte_same lent_same alike) s s' beside (room.over not-deep not-rows free) =
       let n = answer_number (judged_of f s c) s.now (after_of f s c) in
-      let x = next_same f rows depth rows' depth' more_rows more-depth s s' beside c c' byte-same lent_same (⊎_elim (λ e. not-deep (n ∙ e)) (λ e. not-rows (n ∙ e))) in
+      let x = next_same f rows depth rows' depth' more_rows more_depth s s' beside c c' byte_same lent_same (⊎_elim (λ e. not-deep (n ∙ e)) (λ e. not-rows (n ∙ e))) in
       let rest = calls_same cs cs' alike (called f s c) (called f s' c') x.2 free in
       record {
         same_told =

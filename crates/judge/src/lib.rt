@@ -1,6 +1,7 @@
 // All refusals but that for want of rows: judging what a call was given, before anything is done. Nothing is written.
 //
-// The outer functions here take any table, record, words and event.
+// `judge`, `judge_start` and `judge_lent` take any table, record, words and event. `judge_event` is what `judge` asks last, and
+// stands on what it asked before.
 #![tactic(auto)]
 
 ghost use Rattle.std.specs.Prelude.{◌≡◌, ℕ, ◌+◌, ◌≤◌, length};
@@ -162,17 +163,6 @@ pub fn judge_event(k: u64, r: Record, work: &[u64], event: Event) -> Judged
     }
 }
 
-// 1 to 8 of an event; `reports` is the length of the reports' slice.
-pub fn judge_lent(table: &[u8], r: Record, work: &[u64], reports: usize) -> Judged
-    ensures { result ≡ first_of (clear_lines table.now r work.now reports) Judged.Fine }
-{
-    let reading = table::read(table);
-    match reading {
-        Reading::Refused(why) => Judged::Refused(Refusal::Table(why)),
-        Reading::Taken(n, k) => judge_call(n, k, r, work, reports),
-    }
-}
-
 // All of an event's but the last; `reports` is the length of the reports' slice.
 pub fn judge(table: &[u8], r: Record, work: &[u64], reports: usize, event: Event) -> Judged
     ensures { result ≡ first_of (judged_lines table.now r work.now reports event) Judged.Fine }
@@ -204,5 +194,16 @@ pub fn judge_start(table: &[u8], rows: u64, allowed: u64, size: usize) -> Judged
                 Judged::Refused(Refusal::Sizes)
             }
         }
+    }
+}
+
+// 1 to 8 of an event; `reports` is the length of the reports' slice.
+pub fn judge_lent(table: &[u8], r: Record, work: &[u64], reports: usize) -> Judged
+    ensures { result ≡ first_of (clear_lines table.now r work.now reports) Judged.Fine }
+{
+    let reading = table::read(table);
+    match reading {
+        Reading::Refused(why) => Judged::Refused(Refusal::Table(why)),
+        Reading::Taken(n, k) => judge_call(n, k, r, work, reports),
     }
 }

@@ -7,9 +7,9 @@ ghost use Rattle.std.specs.Prelude.{◌≡◌, true, ◌+◌, ◌≤◌, min, ta
 ghost use Rattle.std.specs.Io.KnownBytes.{Consumes};
 ghost use Rattle.pipes.specs.Counts.{IsPrefixLen};
 
-use std::fs;
 use std::io::{Print, Read};
 use std::rt::Files;
+use std::{fs, str};
 
 // So many bytes are read at once, or wait to be written.
 pub const BLOCK: usize = 65536;
@@ -45,13 +45,23 @@ pub fn read_full<R: Read>(from: &mut R, file: &mut [u8]) -> usize
     size
 }
 
-// Reads a file, as far as there is room, and answers how many bytes it put at the front. One that cannot be opened or read
-// counts as empty.
-pub fn load(rt: &impl Files, path: &str, file: &mut [u8]) -> usize
+// Reads a file whose path is text.
+fn load_at(rt: &impl Files, path: &str, file: &mut [u8]) -> usize
     ensures { IsPrefixLen result file.new }
 {
     match fs::open(rt, path) {
         Ok(mut from) => read_full(&mut from, file),
+        Err(_) => 0,
+    }
+}
+
+// Reads a file, as far as there is room, and answers how many bytes it put at the front. One that cannot be opened or read
+// counts as empty, and so does one whose path is no UTF-8, in which std takes paths.
+pub fn load(rt: &impl Files, path: &[u8], file: &mut [u8]) -> usize
+    ensures { IsPrefixLen result file.new }
+{
+    match str::from_utf8(path) {
+        Ok(text) => load_at(rt, text, file),
         Err(_) => 0,
     }
 }

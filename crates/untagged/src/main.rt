@@ -113,7 +113,7 @@ fn follow(rt: &HostRuntime, names: &[u8]) {
 
 fn main(rt: HostRuntime) {
     let mut file = [0u8; NAMES];
-    let size = pipes::load(&rt, "names", &mut file);
+    let size = pipes::load(&rt, b"names", &mut file);
     let names = &file[..size];
     if names::good(names) {
         follow(&rt, names);

@@ -278,6 +278,6 @@ fn watch(rt: &HostRuntime, table: &[u8]) {
 // A table file that cannot be opened or read counts as empty.
 fn main(rt: HostRuntime) {
     let mut file = [0u8; 6334];
-    let size = pipes::load(&rt, "table", &mut file);
+    let size = pipes::load(&rt, b"table", &mut file);
     watch(&rt, &file[..size]);
 }
