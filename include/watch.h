@@ -1,4 +1,4 @@
-/* The watch's two calls. Link with liblink.a, which `rt lib` builds in crates/link (crates/link/out).
+/* The watch's two calls. Link with liblink.a, which tools/archive builds (crates/link_c/out/liblink.a).
  *
  * A watch keeps nothing of its own: the caller lends the table, the record, work memory, the reports and the answer to
  * each call, and hands the same record and work memory to the next one.

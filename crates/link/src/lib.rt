@@ -1,5 +1,5 @@
 // The watch's two calls for programs in C and Rust (include/watch.h), over the start call and the event call and nothing
-// else. A record is lent as six words, an answer as four.
+// else. A record is lent as six words, an answer as four. The crate link_c exports them.
 //
 // Neither call assumes anything of its caller but what no slice can show: each pointer points to as many elements as its
 // length says and is not null, and the lent memories do not overlap.
@@ -81,8 +81,7 @@ fn put_answer(words: &mut [u64], outcome: Outcome)
 }
 
 // A watch over the table: returns 0, or the refusal's number; 100 for a record or answer of the wrong length.
-#[unsafe(no_mangle)]
-pub extern "C" fn watch_start(
+pub fn watch_start(
     table: &[u8],
     rows: u64,
     depth: u64,
@@ -106,8 +105,7 @@ pub extern "C" fn watch_start(
 }
 
 // One event byte: returns the same.
-#[unsafe(no_mangle)]
-pub extern "C" fn watch_event(
+pub fn watch_event(
     table: &[u8],
     record: &mut [u64],
     work: &mut [u64],
