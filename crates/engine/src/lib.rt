@@ -99,7 +99,8 @@ fn step(table: &[u8], r: Record, work: &mut [u64], reports: &mut [u32], step: St
     let alive = r.alive as usize;
     let n = places::rows_length(rows, allowed);
     let accs = accs_for(table, step);
-    if stepping::is_crowded(&work[..n], table, &accs, step, rows, allowed, depth, alive) {
+    let crowded = stepping::is_crowded(&work[..n], table, &accs, step, rows, allowed, depth, alive);
+    if crowded {
         return answers::refused(r, Refusal::Rows);
     }
     let counts = take(table, r, work, reports, &accs, step);

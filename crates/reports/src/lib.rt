@@ -81,7 +81,8 @@ fn report_end(row: &[u64], reports: &mut [u32], table: &[u8], at: usize)
     ensures { reports.new ≡ put_at at (end_report (table_of table.now) (held_in 0 row.now)) reports.old }
 {
     let position = row[places::POSITION];
-    if bodies::is_final(table, row[places::state_at(0)]) {
+    let selected = bodies::is_final(table, row[places::state_at(0)]);
+    if selected {
         reports[at] = (2 * position + 1) as u32;
     } else {
         reports[at] = (2 * position) as u32;
