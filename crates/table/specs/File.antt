@@ -1,6 +1,6 @@
 -- Which files are tables: refusals 1 to 5 of 01, line by line, 3 and 5 with the places of 02's K3. Definitions only.
 -- A file is the list of its bytes; past its end it reads as 0, so each line is a test on any file.
-use Rattle.std.specs.Prelude.{List, [], ◌∷◌, Bool, not, cond, ◌&&◌, ◌≡◌, ℕ, ◌+◌, ◌*◌, ◌≤◌, eqb, leb, ltb, get_or, length}
+use Rattle.std.specs.Prelude.{List, [], ◌∷◌, Bool, not, cond, ◌&&◌, ◌≡◌, ℕ, ◌+◌, ◌*◌, ◌≤◌, eqb, leb, ltb, get_or, length, Result, Ok, Err}
 use Rattle.meaning.specs.Masks.{all}
 use Rattle.meaning.specs.Refusals.{Line, first_of}
 use Rattle.meaning.specs.Search.{first_wrong}
@@ -8,8 +8,6 @@ use Rattle.meaning.specs.Table.{body_at, body_length, in_body}
 use Rattle.bodies.specs.Sound.{states_in, labels_in, start_in}
 use Rattle.table.specs.declared.Field.{Field}
 use Rattle.table.specs.declared.Field.TheVariants as field
-use Rattle.table.specs.declared.Reading.{Reading}
-use Rattle.table.specs.declared.Reading.TheVariants.{Taken, Refused}
 use Rattle.table.specs.declared.Refusal.{Refusal}
 use Rattle.table.specs.declared.Refusal.TheVariants.{Short, Header, Contents, Length, Body}
 
@@ -97,19 +95,23 @@ by_contents f = Contents (wrong_entry f + 1) (wrong_field f (wrong_entry f))
 abbrev pub by_bodies : List ℕ → Refusal
 by_bodies f = Body (wrong_body f + 1) (wrong_byte f (wrong_body f))
 
+-- What reading a file answers: n and k, or why it is refused.
+abbrev pub Reading : Type 0
+Reading = Result (ℕ × ℕ) Refusal
+
 -- The refusals of a table file, in order of checking.
 abbrev pub lines : List ℕ → List (Line Reading)
 lines f =
-    record { applies = is_short f; gives = Refused Short }
-    ∷ record { applies = not (header_right f); gives = Refused Header }
-    ∷ record { applies = not (contents_right f); gives = Refused (by_contents f) }
-    ∷ record { applies = not (length_right f); gives = Refused Length }
-    ∷ record { applies = not (bodies_right f); gives = Refused (by_bodies f) }
+    record { applies = is_short f; gives = Err Short }
+    ∷ record { applies = not (header_right f); gives = Err Header }
+    ∷ record { applies = not (contents_right f); gives = Err (by_contents f) }
+    ∷ record { applies = not (length_right f); gives = Err Length }
+    ∷ record { applies = not (bodies_right f); gives = Err (by_bodies f) }
     ∷ []
 
 -- What reading a file answers.
 abbrev pub reading_of : List ℕ → Reading
-reading_of f = first_of (lines f) (Taken (states_in f) (labels_in f))
+reading_of f = first_of (lines f) (Ok (states_in f, labels_in f))
 
 -- 01's numbers of the refusals.
 abbrev pub refusal_number : Refusal → ℕ
@@ -142,8 +144,8 @@ refusal_inside (Body body byte) = byte
 
 -- The number that a reading answers with: 0 where the file is taken.
 abbrev pub number_of : Reading → ℕ
-number_of (Taken n k) = 0
-number_of (Refused why) = refusal_number why
+number_of (Ok sizes) = 0
+number_of (Err why) = refusal_number why
 
 -- The first of so many bytes from a place on that is not below a limit.
 abbrev pub first_above : List ℕ → ℕ → ℕ → ℕ → ℕ

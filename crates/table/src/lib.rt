@@ -10,10 +10,10 @@ ghost use Rattle.table.specs.File.{Sizes, header_right, two_bytes, field_right, 
 ghost use Rattle.table.specs.File.{first_above, wrong_byte, wrong_body, reading_of};
 ghost use Rattle.table.specs.File.{field_number, refusal_number, refusal_part, refusal_inside};
 
-pub use bodies::{apply, is_final, labels, mark, opening, point, start, states};
+pub use bodies::Table;
 
 // A field of a contents entry.
-#[derive(Clone, Copy)]
+#[derive(Clone, Copy, Debug, PartialEq, Eq)]
 pub enum Field {
     Kind,
     Offset,
@@ -33,7 +33,7 @@ impl Field {
 }
 
 // Why a file is refused: 1 to 5 of 01, in order. 3 and 5 name the first wrong place in file order.
-#[derive(Clone, Copy)]
+#[derive(Clone, Copy, Debug, PartialEq, Eq)]
 pub enum Refusal {
     // Under 29 bytes.
     Short,
@@ -86,13 +86,6 @@ impl Refusal {
             Refusal::Body(_, byte) => byte,
         }
     }
-}
-
-// What reading a file answers: n and k, or why it is refused.
-#[derive(Clone, Copy)]
-pub enum Reading {
-    Taken(u64, u64),
-    Refused(Refusal),
 }
 
 // Is line 2 of the refusals passed? The file has at least the 29 bytes before its bodies.
@@ -229,29 +222,29 @@ fn wrong_body(table: &[u8], n: u64, k: u64) -> u64
 }
 
 // Is the file a table? The lowest refusal that applies is given, with the first place that it is given for.
-pub fn read(table: &[u8]) -> Reading
+pub fn read(table: &[u8]) -> Result<(u64, u64), Refusal>
     ensures { result ≡ reading_of table.now }
 {
     if table.len() < 29 {
-        return Reading::Refused(Refusal::Short);
+        return Err(Refusal::Short);
     }
     if !header_right(table) {
-        return Reading::Refused(Refusal::Header);
+        return Err(Refusal::Header);
     }
     let n = bodies::byte(table, 0);
     let k = bodies::byte(table, 1);
     let entry = wrong_entry(table, n, k);
     if entry < 5 {
         let field = wrong_field(table, n, k, entry);
-        return Reading::Refused(Refusal::Contents(entry + 1, field));
+        return Err(Refusal::Contents(entry + 1, field));
     }
     if table.len() as u64 != offsets::file_length(n, k) {
-        return Reading::Refused(Refusal::Length);
+        return Err(Refusal::Length);
     }
     let body = wrong_body(table, n, k);
     if body < 5 {
         let byte = wrong_byte(table, n, k, body);
-        return Reading::Refused(Refusal::Body(body + 1, byte));
+        return Err(Refusal::Body(body + 1, byte));
     }
-    Reading::Taken(n, k)
+    Ok((n, k))
 }

@@ -1,7 +1,7 @@
 -- `body_at` meets its contract, case by case of i. Assumes nothing.
 use mathlib.Core.Path.{◌≡◌}
 use native.Mathlib.Omega.{arith}
-use Rattle.offsets.proofs.body_at.Goals as goal
+use Rattle.offsets.proofs.Sizes.body_at.Goals as goal
 
 pub returns-in-1 : goal.returns-in-1
 returns-in-1 c = rw c.in-1.is c.point_at.ensures

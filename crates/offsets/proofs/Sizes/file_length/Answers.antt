@@ -1,7 +1,7 @@
 -- `file_length` meets its contract: nothing that it computes is above the longest file's length. Assumes nothing.
 use native.Mathlib.Omega.{arith}
 use Rattle.offsets.proofs.Bounds.{file_small}
-use Rattle.offsets.proofs.file_length.Goals as goal
+use Rattle.offsets.proofs.Sizes.file_length.Goals as goal
 
 pub overflow_add-result : goal.overflow_add-result
-overflow_add-result c = omega (arith, file_small _ _ c.requires.0 c.requires.1)
+overflow_add-result c = omega (arith, file_small _ _ c.args.self.few.0 c.args.self.few.1)

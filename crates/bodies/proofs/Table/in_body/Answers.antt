@@ -7,18 +7,18 @@ use Rattle.bodies.proofs.Inside.{byte_inside}
 use Rattle.bodies.specs.Sound.{states_in, labels_in}
 use Rattle.meaning.specs.Table.{body_at}
 use Rattle.offsets.proofs.Bounds.{place_same}
-use Rattle.bodies.proofs.in_body.Goals as goal
+use Rattle.bodies.proofs.Table.in_body.Goals as goal
 
 -- The body begins where the specification has it.
 place :
     (c : goal.After-body_at) →
-    c.body_at.result ≡ body_at (states_in c.args.table.now) (labels_in c.args.table.now) c.args.i
-place c = c.body_at.ensures ∙ place_same c.byte-n.ensures c.byte-k.ensures c.args.i
+    c.body_at.result ≡ body_at (states_in c.args.self.now.file.now) (labels_in c.args.self.now.file.now) c.args.i
+place c = c.body_at.ensures ∙ place_same c.sizes.ensures.states c.sizes.ensures.labels c.args.i
 
 inside :
     (c : goal.After-body_at) →
-    c.body_at.result + c.args.j < length c.args.table.now
-inside c = byte_inside c.requires.sound c.args.i c.requires.i_bound.0 c.body_at.result c.args.j (place c) c.requires.i_bound.1
+    c.body_at.result + c.args.j < length c.args.self.now.file.now
+inside c = byte_inside c.args.self.now.sound c.args.i c.requires.0 c.body_at.result c.args.j (place c) c.requires.1
 
 pub overflow_add-body_at : goal.overflow_add-body_at
 overflow_add-body_at c = omega (arith, inside c)
@@ -28,5 +28,4 @@ byte-requires c = inside c
 
 pub returns : goal.returns
 returns c =
-    let place = c.body_at.ensures ∙ place_same c.byte-n.ensures c.byte-k.ensures c.args.i in
-    rw place at c.byte.ensures
+    rw (c.body_at.ensures ∙ place_same c.sizes.ensures.states c.sizes.ensures.labels c.args.i) at c.byte.ensures
