@@ -1,29 +1,20 @@
 // Words of lent memory, set to 0 or copied.
 #![tactic(auto)]
 
-ghost use Rattle.std.specs.Prelude.{◌≡◌, ◌⊎◌, ◌+◌, ◌≤◌, length, drop, replicate};
+ghost use Rattle.std.specs.Prelude.{◌≡◌, ◌+◌, ◌≤◌, length, drop, replicate};
 ghost use Rattle.std.proofs.Math.Seq.{paste};
 
 // The w words from `from` on are copied to `to`.
 pub fn copy_words(words: &mut [u64], to: usize, from: usize, w: usize)
-    requires fact { (to ≤ from) ⊎ (from + w ≤ to) }
-    requires w_in_bounds { (from + w ≤ length words.old) × (to + w ≤ length words.old) }
+    requires { (from + w ≤ length words.old) × (to + w ≤ length words.old) }
     ensures { words.new ≡ paste words.old to (drop from words.old) w }
 {
-    let mut i = 0;
-    while i < w {
-        words[to + i] = words[from + i];
-        i += 1;
-    }
+    words.copy_within(from..from + w, to);
 }
 
 // Every word is 0.
 pub fn clear(words: &mut [u64])
     ensures { words.new ≡ replicate (length words.old) 0 }
 {
-    let mut i = 0;
-    while i < words.len() {
-        words[i] = 0;
-        i += 1;
-    }
+    words.fill(0);
 }

@@ -6,28 +6,18 @@ use Rattle.bodies.proofs.Fits.{state_fits}
 use Rattle.masks.proofs.Turns.{one_shifted}
 use Rattle.closing.proofs.acc.Goals as goal
 
-pub overflow_shl-x : goal.overflow_shl-x
-overflow_shl-x c = state_fits _ c.requires.sound c.args.q c.requires.q_bound
-
 pub loop-x-init : goal.loop-x-init
 loop-x-init c =
-    let s = c in
-    rw (one_shifted s.args.q (state_fits _ s.requires.sound s.args.q s.requires.q_bound)) (way_begins _ (pow-lt s.requires.q_bound))
-
-pub round-next-requires : goal.round-next-requires
-round-next-requires c = c.requires.sound
+    rw (one_shifted c.args.q (state_fits _ c.args.table.now.sound c.args.q c.requires)) (way_begins _ (pow-lt c.requires))
 
 pub loop-x-smaller : goal.loop-x-smaller
 loop-x-smaller c =
-    let s = c in
-    way_shortens (acc_adds _ s.requires.sound.formed s.args.trees) c.round-next.ensures c.loop-x.invariant c.if-next-x.false
+    way_shortens (acc_adds _ c.args.table.now.sound.formed c.args.trees) c.round-next.ensures c.loop-x.invariant c.if-next-x.false
 
 pub loop-x-preserved : goal.loop-x-preserved
 loop-x-preserved c =
-    let s = c in
-    way_goes_on (acc_adds _ s.requires.sound.formed s.args.trees) c.round-next.ensures c.loop-x.invariant
+    way_goes_on (acc_adds _ c.args.table.now.sound.formed c.args.trees) c.round-next.ensures c.loop-x.invariant
 
 pub returns : goal.returns
 returns c =
-    let s = c in
-    way_ends (acc_adds _ s.requires.sound.formed s.args.trees) c.round-next.ensures c.loop-x.invariant c.if-next-x.true
+    way_ends (acc_adds _ c.args.table.now.sound.formed c.args.trees) c.round-next.ensures c.loop-x.invariant c.if-next-x.true

@@ -1,12 +1,8 @@
 -- `add_points` meets its contract. The invariant: y has the labels passed.
 use mathlib.Core.Path.{◌≡◌}
-use Prim.Native.Nat.{◌≤◌, ◌-◌}
 use Rattle.meaning.specs.Masks.{added, upto}
-use Rattle.meaning.specs.Table.{table_of}
+use Rattle.bodies.specs.Automaton.{automaton}
 use Rattle.closing.proofs.add_points.Given as goal
 
 abbrev pub invariant-loop-a : goal.invariant-loop-a
-invariant-loop-a l = (l.a ≤ (table_of l.table).labels) × (l.y ≡ upto l.a (λ b z. added z ((table_of l.table).point l.q b)) l.x)
-
-abbrev pub decreases-loop-a : goal.decreases-loop-a
-decreases-loop-a l = (table_of l.table).labels - l.a
+invariant-loop-a l = l.y ≡ upto l.a (λ b z. added z ((automaton l.table).point l.q b)) l.x

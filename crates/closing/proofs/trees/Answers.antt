@@ -4,22 +4,16 @@ use Rattle.closing.proofs.StopEarly.{way_begins, way_goes_on, way_shortens, way_
 use Rattle.closing.proofs.trees.Goals as goal
 
 pub loop-x-init : goal.loop-x-init
-loop-x-init c = rw c.openings-x.ensures (way_begins _ (openings_lt _ c.requires.formed))
-
-pub round-next-requires : goal.round-next-requires
-round-next-requires c = c.requires
+loop-x-init c = rw c.openings-x.ensures (way_begins _ (openings_lt _ c.args.table.now.sound.formed))
 
 pub loop-x-smaller : goal.loop-x-smaller
 loop-x-smaller c =
-    let s = c in
-    way_shortens (trees_adds _ s.requires.formed) c.round-next.ensures c.loop-x.invariant c.if-next-x.false
+    way_shortens (trees_adds _ c.args.table.now.sound.formed) c.round-next.ensures c.loop-x.invariant c.if-next-x.false
 
 pub loop-x-preserved : goal.loop-x-preserved
 loop-x-preserved c =
-    let s = c in
-    way_goes_on (trees_adds _ s.requires.formed) c.round-next.ensures c.loop-x.invariant
+    way_goes_on (trees_adds _ c.args.table.now.sound.formed) c.round-next.ensures c.loop-x.invariant
 
 pub returns : goal.returns
 returns c =
-    let s = c in
-    way_ends (trees_adds _ s.requires.formed) c.round-next.ensures c.loop-x.invariant c.if-next-x.true
+    way_ends (trees_adds _ c.args.table.now.sound.formed) c.round-next.ensures c.loop-x.invariant c.if-next-x.true

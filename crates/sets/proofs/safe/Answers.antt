@@ -9,23 +9,13 @@ use Rattle.masks.proofs.Turns.{turn_taken, turn_left}
 use Rattle.sets.proofs.safe.Goals as goal
 use Rattle.sets.proofs.safe.Goals.{then-acc-x, else-acc-x}
 
-pub loop-q-init : goal.loop-q-init
-loop-q-init c = (omega arith, refl)
-
-pub returns : goal.returns
-returns c =
-    let e : c.loop-q.q ≡ c.args.n = omega arith in
-    rw e at c.loop-q.invariant.1
-
 pub loop-q-preserved : goal.loop-q-preserved
 unfolding within
 loop-q-preserved c =
     let l = c.loop-q in
-    let F : ℕ → ℕ = λ z. added z l.q in (
-      omega arith,
-      rw add-one
-          (elim c.if-acc-x.branch [
-            | then-acc-x w ↦ turn_taken F refl (eq-eqb _ _ w.if-acc-x.true) l.invariant.1 (w.y-is ∙ w.add-y.ensures)
-            | else-acc-x w ↦ turn_left F refl (ne_eqb _ _ w.if-acc-x.false) l.invariant.1 w.y-is
-          ]),
-    )
+    let F : ℕ → ℕ = λ z. added z l.q in
+    rw add-one
+        (elim c.if-acc-x.branch [
+          | then-acc-x w ↦ turn_taken F refl (eq-eqb _ _ w.if-acc-x.true) l.invariant (w.y-is ∙ w.add-y.ensures)
+          | else-acc-x w ↦ turn_left F refl (ne_eqb _ _ w.if-acc-x.false) l.invariant w.y-is
+        ])
