@@ -6,84 +6,61 @@
 #![tactic(auto)]
 
 ghost use Rattle.std.specs.Prelude.{◌≡◌, not, ◌++◌, map, ◌+◌, ◌*◌, ◌<◌, ◌≤◌, length, take, drop};
-ghost use Rattle.meaning.specs.Table.{table_of};
 ghost use Rattle.meaning.specs.Rows.{mark_row};
-ghost use Rattle.bodies.specs.Sound.{Sound};
+ghost use Rattle.bodies.specs.Automaton.{automaton};
 ghost use Rattle.places.specs.Places.{row_length, row_of, padded};
 ghost use Rattle.places.specs.Memory.{row_in, helds_in, row_words, all_words, RowIn, RowsIn};
-ghost use Rattle.rows.specs.Steps.{event_of, Can, step_row, on_row, is_decided};
+ghost use Rattle.rows.specs.Steps.{on_row, is_decided};
+ghost use Rattle.rows.specs.Rules.{states_by, CanBy, step_by};
 ghost use Rattle.reports.specs.Reports.{left_of};
 
-use rows::Step;
+use bodies::Table;
+use rows::Rule;
 
 // Every row takes the event.
-pub fn step_rows(
-    words: &mut [u64],
-    table: &[u8],
-    accs: &[u64; 64],
-    step: Step,
-    w: usize,
-    d: usize,
-    n: usize,
-)
-    requires sound { Sound table.now }
-    requires rows_in { RowsIn (table_of table.now).states w d n words.old }
-    requires n_bound { (n ≤ 65) × Can (table_of table.now) w d (event_of step) }
-    ensures { words.new ≡ all_words w (map (on_row (step_row (table_of table.now) accs.now (event_of step))) (helds_in w d n words.old)) ++ drop (n * w) words.old }
+pub fn step_rows(words: &mut [u64], rule: &Rule, w: usize, d: usize, n: usize)
+    requires rows_in { RowsIn (states_by rule.now) w d n words.old }
+    requires n_bound { (n ≤ 65) × CanBy rule.now w d }
+    ensures { words.new ≡ all_words w (map (on_row (step_by rule.now)) (helds_in w d n words.old)) ++ drop (n * w) words.old }
 {
-    let mut r = 0;
-    while r < n {
+    for r in 0..n {
         let from = r * w;
-        rows::step_row(&mut words[from..from + w], table, accs, step, d);
-        r += 1;
+        rule.step_row(&mut words[from..from + w], d);
     }
 }
 
 // Would the row be in doubt after the event? Nothing is written.
-fn stays_after(row: &[u64], table: &[u8], accs: &[u64; 64], step: Step, d: usize) -> bool
-    requires sound { Sound table.now }
-    requires row_in { RowIn (table_of table.now).states d row.now }
-    requires can { Can (table_of table.now) (length row.now) d (event_of step) }
-    ensures { result ≡ not (is_decided (step_row (table_of table.now) accs.now (event_of step) (row_in d row.now))) }
+fn stays_after(row: &[u64], rule: &Rule, d: usize) -> bool
+    requires row_in { RowIn (states_by rule.now) d row.now }
+    requires can { CanBy rule.now (length row.now) d }
+    ensures { result ≡ not (is_decided (step_by rule.now (row_in d row.now))) }
 {
-    let s = rows::next_state(row, table, step, d);
-    rows::stays(row, table, accs, step, d, s)
+    let s = rule.next_state(row, d);
+    rule.stays(row, d, s)
 }
 
 // Would the new position of the event be in doubt after it? The row is row 0. Nothing is written.
-pub fn new_stays(row: &[u64], table: &[u8], accs: &[u64; 64], step: Step, d: usize) -> bool
-    requires sound { Sound table.now }
-    requires row_in { RowIn (table_of table.now).states d row.now }
-    requires can { Can (table_of table.now) (length row.now) d (event_of step) }
-    ensures { result ≡ not (is_decided (mark_row (table_of table.now) (step_row (table_of table.now) accs.now (event_of step) (row_in d row.now)))) }
+pub fn new_stays(row: &[u64], rule: &Rule, d: usize) -> bool
+    requires row_in { RowIn (states_by rule.now) d row.now }
+    requires can { CanBy rule.now (length row.now) d }
+    ensures { result ≡ not (is_decided (mark_row (automaton rule.now.table) (step_by rule.now (row_in d row.now)))) }
 {
-    let s = bodies::mark(table, rows::next_state(row, table, step, d));
-    rows::stays(row, table, accs, step, d, s)
+    let s = rule.table.mark(rule.next_state(row, d));
+    rule.stays(row, d, s)
 }
 
 // How many rows would be in doubt after the event? Nothing is written.
-pub fn count_alive(
-    words: &[u64],
-    table: &[u8],
-    accs: &[u64; 64],
-    step: Step,
-    w: usize,
-    d: usize,
-    n: usize,
-) -> usize
-    requires sound { Sound table.now }
-    requires rows_in { RowsIn (table_of table.now).states w d n words.now }
-    requires n_bound { (n ≤ 65) × Can (table_of table.now) w d (event_of step) }
-    ensures { result ≡ length (left_of (map (on_row (step_row (table_of table.now) accs.now (event_of step))) (helds_in w d n words.now))) }
+pub fn count_alive(words: &[u64], rule: &Rule, w: usize, d: usize, n: usize) -> usize
+    requires rows_in { RowsIn (states_by rule.now) w d n words.now }
+    requires n_bound { (n ≤ 65) × CanBy rule.now w d }
+    ensures { result ≡ length (left_of (map (on_row (step_by rule.now)) (helds_in w d n words.now))) }
 {
     let mut count = 0;
-    let mut r = 0;
-    while r < n {
+    for r in 0..n {
         let from = r * w;
-        if stays_after(&words[from..from + w], table, accs, step, d) {
+        if stays_after(&words[from..from + w], rule, d) {
             count += 1;
         }
-        r += 1;
     }
     count
 }
@@ -104,9 +81,8 @@ pub fn close_up(words: &mut [u64], w: usize, d: usize, n: usize) -> usize
     ensures value { result ≡ length (left_of (helds_in w d n words.old)) }
     ensures words_after { words.new ≡ padded (n * w) (all_words w (left_of (helds_in w d n words.old))) ++ drop (n * w) words.old }
 {
-    let mut r = 0;
     let mut left = 0;
-    while r < n {
+    for r in 0..n {
         let from = r * w;
         if is_left(&words[from..from + w], d) {
             if left < r {
@@ -114,18 +90,16 @@ pub fn close_up(words: &mut [u64], w: usize, d: usize, n: usize) -> usize
             }
             left += 1;
         }
-        r += 1;
     }
     words::clear(&mut words[left * w..n * w]);
     left
 }
 
 // Row r becomes that of a new position: a copy of row 0, its newest state passed through M.
-pub fn add_row(words: &mut [u64], table: &[u8], w: usize, d: usize, r: usize, position: u64)
-    requires sound { Sound table.now }
-    requires row_in { RowIn (table_of table.now).states d (row_of w 0 words.old) }
+pub fn add_row(words: &mut [u64], table: &Table, w: usize, d: usize, r: usize, position: u64)
+    requires row_in { RowIn (automaton table.now).states d (row_of w 0 words.old) }
     requires r_nonzero { (0 < r) × (r ≤ 64) × (w ≤ row_length 40) × ((r + 1) * w ≤ length words.old) }
-    ensures { words.new ≡ take (r * w) words.old ++ row_words w (record { position = position; row = mark_row (table_of table.now) (row_in d (row_of w 0 words.old)) }) ++ drop ((r + 1) * w) words.old }
+    ensures { words.new ≡ take (r * w) words.old ++ row_words w (record { position = position; row = mark_row (automaton table.now) (row_in d (row_of w 0 words.old)) }) ++ drop ((r + 1) * w) words.old }
 {
     let at = r * w;
     words::copy_words(words, at, 0, w);

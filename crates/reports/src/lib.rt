@@ -4,13 +4,14 @@
 #![tactic(auto)]
 
 ghost use Rattle.std.specs.Prelude.{◌≡◌, ℕ, ◌+◌, ◌*◌, ◌<◌, ◌≤◌, length, get_or};
-ghost use Rattle.meaning.specs.Table.{table_of};
-ghost use Rattle.bodies.specs.Sound.{Sound};
+ghost use Rattle.bodies.specs.Automaton.{automaton};
 ghost use Rattle.places.specs.Places.{position_at, row_length, row_of};
 ghost use Rattle.places.specs.Memory.{row_in, held_in, helds_in, RowIn, RowsIn};
 ghost use Rattle.rows.specs.Steps.{in_row};
 ghost use Rattle.reports.specs.Reports.{report_of, reports_of, end_report, end_reports};
 ghost use Rattle.meaning.specs.Lent.{put_at, on_front};
+
+use bodies::Table;
 
 // The report, if any, of a position whose newest state is s, in the sets of level d of the row; it is written at a place
 // of reports. Answers the place after it.
@@ -64,24 +65,21 @@ pub fn report_rows(words: &[u64], reports: &mut [u32], w: usize, d: usize, n: us
     ensures reports_after { reports.new ≡ on_front (reports_of (helds_in w d n words.now)) reports.old }
 {
     let mut count = 0;
-    let mut r = 0;
-    while r < n {
+    for r in 0..n {
         let from = r * w;
         count = report_row(&words[from..from + w], reports, d, count);
-        r += 1;
     }
     count
 }
 
 // The report of a row at the end of the stream, when it has level 0 only.
-fn report_end(row: &[u64], reports: &mut [u32], table: &[u8], at: usize)
-    requires sound { Sound table.now }
-    requires row_in { RowIn (table_of table.now).states 0 row.now }
+fn report_end(row: &[u64], reports: &mut [u32], table: &Table, at: usize)
+    requires row_in { RowIn (automaton table.now).states 0 row.now }
     requires position_at_bound { (get_or row.now position_at 0 ≤ 2147483647) × (at < length reports.old) }
-    ensures { reports.new ≡ put_at at (end_report (table_of table.now) (held_in 0 row.now)) reports.old }
+    ensures { reports.new ≡ put_at at (end_report (automaton table.now) (held_in 0 row.now)) reports.old }
 {
     let position = row[places::POSITION];
-    let selected = bodies::is_final(table, row[places::state_at(0)]);
+    let selected = table.is_final(row[places::state_at(0)]);
     if selected {
         reports[at] = (2 * position + 1) as u32;
     } else {
@@ -90,17 +88,14 @@ fn report_end(row: &[u64], reports: &mut [u32], table: &[u8], at: usize)
 }
 
 // The reports of all rows at the end of the stream, from the front of reports.
-pub fn report_ends(words: &[u64], reports: &mut [u32], table: &[u8], w: usize, n: usize)
-    requires sound { Sound table.now }
-    requires rows_in { RowsIn (table_of table.now).states w 0 n words.now }
+pub fn report_ends(words: &[u64], reports: &mut [u32], table: &Table, w: usize, n: usize)
+    requires rows_in { RowsIn (automaton table.now).states w 0 n words.now }
     requires n_bound { (n ≤ 64) × (n < length reports.old) }
     requires by_index { (r : ℕ) → r < n → get_or (row_of w r words.now) position_at 0 ≤ 2147483647 }
-    ensures { reports.new ≡ on_front (end_reports (table_of table.now) (helds_in w 0 n words.now)) reports.old }
+    ensures { reports.new ≡ on_front (end_reports (automaton table.now) (helds_in w 0 n words.now)) reports.old }
 {
-    let mut r = 0;
-    while r < n {
+    for r in 0..n {
         let from = r * w;
         report_end(&words[from..from + w], reports, table, r);
-        r += 1;
     }
 }

@@ -1,105 +1,82 @@
-// One row of work memory: its steps by the rules of 01, what it would be after a step, and its verdict.
+// One row of work memory: its steps by the rules, what it would be after a step, and its verdict.
 //
-// A row is lent as the part of work memory that it is. Functions here ask for words that are a row (`RowIn`) and for a
-// table that can be stepped by (`Sound`); each leaves the words of the row that the rule names.
+// A row is lent as the part of work memory that it is. Functions here ask for words that are a row (`RowIn`); each leaves
+// the words of the row that the rule names.
 #![tactic(auto)]
 
 ghost use Rattle.std.specs.Prelude.{◌≡◌, not, ◌+◌, ◌<◌, ◌≤◌, length, get_or};
-ghost use Rattle.meaning.specs.Table.{table_of};
 ghost use Rattle.meaning.specs.Masks.{down_of};
 ghost use Rattle.meaning.specs.Rows.{point_row, open_row, close_row, mark_row};
-ghost use Rattle.bodies.specs.Sound.{Sound};
+ghost use Rattle.bodies.specs.Automaton.{automaton};
 ghost use Rattle.places.specs.Places.{row_length};
 ghost use Rattle.places.specs.Memory.{level_in, row_in, held_in, row_words, RowIn};
-ghost use Rattle.rows.specs.Steps.{event_of, Can, step_row, on_row, next_state, in_row, is_decided, neither};
+ghost use Rattle.rows.specs.Steps.{on_row, in_row, is_decided, neither};
+ghost use Rattle.rows.specs.Rules.{states_by, CanBy, step_by, next_by};
+
+use bodies::Table;
 
 // An event that steps every row.
-#[derive(Clone, Copy)]
+#[derive(Clone, Copy, Debug, PartialEq, Eq)]
 pub enum Step {
     Open(u64),
     Point(u64),
     Close,
 }
 
+// What every row is stepped by: the table, its sets acc, and the event. A point and a close do without the sets.
+#[derive(Clone, Copy)]
+pub struct Rule<'a> {
+    pub table: Table<'a>,
+    pub accs: &'a [u64; 64],
+    pub step: Step,
+}
+
 // Point: the newest state, that of level d, steps by P; sets stay.
-fn point_row(row: &mut [u64], table: &[u8], a: u64, d: usize)
-    requires sound { Sound table.now }
-    requires row_in { RowIn (table_of table.now).states d row.old }
-    requires a_bound { a < (table_of table.now).labels }
-    ensures { row.new ≡ row_words (length row.old) (on_row (point_row (table_of table.now) a) (held_in d row.old)) }
+fn point_row(row: &mut [u64], table: &Table, a: u64, d: usize)
+    requires row_in { RowIn (automaton table.now).states d row.old }
+    requires a_bound { a < (automaton table.now).labels }
+    ensures { row.new ≡ row_words (length row.old) (on_row (point_row (automaton table.now) a) (held_in d row.old)) }
 {
     let at = places::state_at(d);
-    row[at] = bodies::point(table, row[at], a);
+    row[at] = table.point(row[at], a);
 }
 
 // Open: a level with state O(a) and sets down(q,S) and down(q,R), from the row's own q, S and R of level d.
-fn open_row(row: &mut [u64], table: &[u8], accs: &[u64; 64], a: u64, d: usize)
-    requires sound { Sound table.now }
-    requires row_in { RowIn (table_of table.now).states d row.old }
-    requires a_bound { (a < (table_of table.now).labels) × (row_length (d + 1) ≤ length row.old) }
-    ensures { row.new ≡ row_words (length row.old) (on_row (open_row (table_of table.now) accs.now a) (held_in d row.old)) }
+fn open_row(row: &mut [u64], table: &Table, accs: &[u64; 64], a: u64, d: usize)
+    requires row_in { RowIn (automaton table.now).states d row.old }
+    requires a_bound { (a < (automaton table.now).labels) × (row_length (d + 1) ≤ length row.old) }
+    ensures { row.new ≡ row_words (length row.old) (on_row (open_row (automaton table.now) accs.now a) (held_in d row.old)) }
 {
     let q = row[places::state_at(d)];
     let selecting = sets::down(table, accs, q, row[places::selecting_at(d)]);
     let rejecting = sets::down(table, accs, q, row[places::rejecting_at(d)]);
-    row[places::state_at(d + 1)] = bodies::opening(table, a);
+    row[places::state_at(d + 1)] = table.opening(a);
     row[places::selecting_at(d + 1)] = selecting;
     row[places::rejecting_at(d + 1)] = rejecting;
 }
 
 // Close: level d goes, its words are 0; the state below becomes A(q,p), its sets stay.
-fn close_row(row: &mut [u64], table: &[u8], d: usize)
-    requires sound { Sound table.now }
-    requires row_in { RowIn (table_of table.now).states d row.old }
+fn close_row(row: &mut [u64], table: &Table, d: usize)
+    requires row_in { RowIn (automaton table.now).states d row.old }
     requires d_nonzero { 0 < d }
-    ensures { row.new ≡ row_words (length row.old) (on_row (close_row (table_of table.now)) (held_in d row.old)) }
+    ensures { row.new ≡ row_words (length row.old) (on_row (close_row (automaton table.now)) (held_in d row.old)) }
 {
     let from = places::state_at(d - 1);
     let at = places::state_at(d);
-    row[from] = bodies::apply(table, row[from], row[at]);
+    row[from] = table.apply(row[from], row[at]);
     row[at] = 0;
     row[places::selecting_at(d)] = 0;
     row[places::rejecting_at(d)] = 0;
 }
 
-// The row after an event, by the rule for that event.
-pub fn step_row(row: &mut [u64], table: &[u8], accs: &[u64; 64], step: Step, d: usize)
-    requires sound { Sound table.now }
-    requires row_in { RowIn (table_of table.now).states d row.old }
-    requires can { Can (table_of table.now) (length row.old) d (event_of step) }
-    ensures { row.new ≡ row_words (length row.old) (on_row (step_row (table_of table.now) accs.now (event_of step)) (held_in d row.old)) }
-{
-    match step {
-        Step::Open(a) => open_row(row, table, accs, a, d),
-        Step::Point(a) => point_row(row, table, a, d),
-        Step::Close => close_row(row, table, d),
-    }
-}
-
 // The row becomes that of a new position, its newest state passed through M.
-pub fn mark_row(row: &mut [u64], table: &[u8], d: usize, position: u64)
-    requires sound { Sound table.now }
-    requires row_in { RowIn (table_of table.now).states d row.old }
-    ensures { row.new ≡ row_words (length row.old) (record { position = position; row = mark_row (table_of table.now) (row_in d row.old) }) }
+pub fn mark_row(row: &mut [u64], table: &Table, d: usize, position: u64)
+    requires { RowIn (automaton table.now).states d row.old }
+    ensures { row.new ≡ row_words (length row.old) (record { position = position; row = mark_row (automaton table.now) (row_in d row.old) }) }
 {
     let at = places::state_at(d);
     row[places::POSITION] = position;
-    row[at] = bodies::mark(table, row[at]);
-}
-
-// The newest state that an event takes the row to. Nothing is written.
-pub fn next_state(row: &[u64], table: &[u8], step: Step, d: usize) -> u64
-    requires sound { Sound table.now }
-    requires row_in { RowIn (table_of table.now).states d row.now }
-    requires can { Can (table_of table.now) (length row.now) d (event_of step) }
-    ensures { result ≡ next_state (table_of table.now) (event_of step) (row_in d row.now) }
-{
-    let q = row[places::state_at(d)];
-    match step {
-        Step::Open(a) => bodies::opening(table, a),
-        Step::Point(a) => bodies::point(table, q, a),
-        Step::Close => bodies::apply(table, row[places::state_at(d - 1)], q),
-    }
+    row[at] = table.mark(row[at]);
 }
 
 // Is state s in neither set of level d?
@@ -120,11 +97,10 @@ fn acc_of(accs: &[u64; 64], s: u64) -> u64
 
 // Is state s in neither set of the level that an open puts over level d? No set is worked out: s is in down(q,X) by
 // acc(s) alone.
-fn is_neither_down(row: &[u64], table: &[u8], accs: &[u64; 64], d: usize, s: u64) -> bool
-    requires sound { Sound table.now }
-    requires row_in { RowIn (table_of table.now).states d row.now }
-    requires s_bound { s < (table_of table.now).states }
-    ensures { result ≡ neither (down_of (table_of table.now) accs.now (level_in row.now d).state (level_in row.now d).selecting) (down_of (table_of table.now) accs.now (level_in row.now d).state (level_in row.now d).rejecting) s }
+fn is_neither_down(row: &[u64], table: &Table, accs: &[u64; 64], d: usize, s: u64) -> bool
+    requires row_in { RowIn (automaton table.now).states d row.now }
+    requires s_bound { s < (automaton table.now).states }
+    ensures { result ≡ neither (down_of (automaton table.now) accs.now (level_in row.now d).state (level_in row.now d).selecting) (down_of (automaton table.now) accs.now (level_in row.now d).state (level_in row.now d).rejecting) s }
 {
     let q = row[places::state_at(d)];
     let acc = acc_of(accs, s);
@@ -132,17 +108,45 @@ fn is_neither_down(row: &[u64], table: &[u8], accs: &[u64; 64], d: usize, s: u64
         && !sets::in_down(table, acc, q, row[places::rejecting_at(d)])
 }
 
-// Is state s in neither set of the newest level that an event takes the row to? Nothing is written.
-pub fn stays(row: &[u64], table: &[u8], accs: &[u64; 64], step: Step, d: usize, s: u64) -> bool
-    requires sound { Sound table.now }
-    requires row_in { RowIn (table_of table.now).states d row.now }
-    requires can { Can (table_of table.now) (length row.now) d (event_of step) }
-    requires s_bound { s < (table_of table.now).states }
-    ensures { result ≡ not (is_decided (in_row s (step_row (table_of table.now) accs.now (event_of step) (row_in d row.now)))) }
-{
-    match step {
-        Step::Open(_) => is_neither_down(row, table, accs, d, s),
-        Step::Point(_) => is_neither(row, d, s),
-        Step::Close => is_neither(row, d - 1, s),
+impl Rule<'_> {
+    // The row after the event.
+    pub fn step_row(&self, row: &mut [u64], d: usize)
+        requires row_in { RowIn (states_by self.now) d row.old }
+        requires can { CanBy self.now (length row.old) d }
+        ensures { row.new ≡ row_words (length row.old) (on_row (step_by self.now) (held_in d row.old)) }
+    {
+        match self.step {
+            Step::Open(a) => open_row(row, &self.table, self.accs, a, d),
+            Step::Point(a) => point_row(row, &self.table, a, d),
+            Step::Close => close_row(row, &self.table, d),
+        }
+    }
+
+    // The newest state that the event takes the row to. Nothing is written.
+    pub fn next_state(&self, row: &[u64], d: usize) -> u64
+        requires row_in { RowIn (states_by self.now) d row.now }
+        requires can { CanBy self.now (length row.now) d }
+        ensures { result ≡ next_by self.now (row_in d row.now) }
+    {
+        let q = row[places::state_at(d)];
+        match self.step {
+            Step::Open(a) => self.table.opening(a),
+            Step::Point(a) => self.table.point(q, a),
+            Step::Close => self.table.apply(row[places::state_at(d - 1)], q),
+        }
+    }
+
+    // Is state s in neither set of the newest level that the event takes the row to? Nothing is written.
+    pub fn stays(&self, row: &[u64], d: usize, s: u64) -> bool
+        requires row_in { RowIn (states_by self.now) d row.now }
+        requires can { CanBy self.now (length row.now) d }
+        requires s_bound { s < states_by self.now }
+        ensures { result ≡ not (is_decided (in_row s (step_by self.now (row_in d row.now)))) }
+    {
+        match self.step {
+            Step::Open(_) => is_neither_down(row, &self.table, self.accs, d, s),
+            Step::Point(_) => is_neither(row, d, s),
+            Step::Close => is_neither(row, d - 1, s),
+        }
     }
 }

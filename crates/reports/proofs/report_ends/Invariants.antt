@@ -1,12 +1,8 @@
 -- `report_ends` meets its contract. The invariant: the rows passed are reported, one report a row.
-use Prim.Native.Nat.{◌-◌}
-use Rattle.meaning.specs.Table.{table_of}
+use Rattle.bodies.specs.Automaton.{automaton}
 use Rattle.reports.specs.Reports.{end_report}
 use Rattle.reports.proofs.Puts.{Reported}
 use Rattle.reports.proofs.report_ends.Given as goal
 
 abbrev pub invariant-loop-r : goal.invariant-loop-r
-invariant-loop-r l = Reported (end_report (table_of l.table)) l.w 0 l.n l.words l.initial.reports l.reports l.r l.r
-
-abbrev pub decreases-loop-r : goal.decreases-loop-r
-decreases-loop-r l = l.n - l.r
+invariant-loop-r l = Reported (end_report (automaton l.table)) l.w 0 l.n l.words l.initial.reports l.reports l.r l.r
