@@ -1,10 +1,8 @@
 -- What a call answers, with the refusals' numbers, their order of checking and their places (01, and 02 from K2 on). Definitions only.
-use Rattle.std.specs.Prelude.{List, [], ◌∷◌, ℕ}
+use Rattle.std.specs.Prelude.{List, [], ◌∷◌, ℕ, Result, Ok, Err}
 use Rattle.table.specs.File as file
 use Rattle.answers.specs.declared.Record.{Record}
 use Rattle.answers.specs.declared.Answer.{Answer}
-use Rattle.answers.specs.declared.Outcome.{Outcome}
-use Rattle.answers.specs.declared.Outcome.TheVariants.{Taken, Refused}
 use Rattle.answers.specs.declared.Place.{Place}
 use Rattle.answers.specs.declared.Refusal.{Refusal}
 use Rattle.answers.specs.declared.Refusal.TheVariants as why
@@ -43,14 +41,18 @@ refusal_rank why.Rows = 16
 abbrev pub checked : List ℕ
 checked = 1 ∷ 2 ∷ 3 ∷ 4 ∷ 5 ∷ 6 ∷ 7 ∷ 8 ∷ 9 ∷ 10 ∷ 11 ∷ 16 ∷ 12 ∷ 13 ∷ 14 ∷ 15 ∷ []
 
+-- What became of a call: taken, with the number of reports, or refused.
+abbrev pub Outcome : Type 0
+Outcome = Result ℕ Refusal
+
 -- Both are 0 where the call was taken.
 abbrev pub outcome_number : Outcome → ℕ
-outcome_number (Taken reports) = 0
-outcome_number (Refused why) = refusal_number why
+outcome_number (Ok reports) = 0
+outcome_number (Err why) = refusal_number why
 
 abbrev pub outcome_rank : Outcome → ℕ
-outcome_rank (Taken reports) = 0
-outcome_rank (Refused why) = refusal_rank why
+outcome_rank (Ok reports) = 0
+outcome_rank (Err why) = refusal_rank why
 
 -- The place that a refusal names.
 abbrev pub nowhere : Place
@@ -71,11 +73,11 @@ place_of why.Positions = nowhere
 place_of why.Rows = nowhere
 
 abbrev pub outcome_place : Outcome → Place
-outcome_place (Taken reports) = nowhere
-outcome_place (Refused why) = place_of why
+outcome_place (Ok reports) = nowhere
+outcome_place (Err why) = place_of why
 
 abbrev pub refused_of : Record → Refusal → Answer
-refused_of r why = record { next = r; outcome = Refused why }
+refused_of r why = record { next = r; outcome = Err why }
 
 abbrev pub taken_of : Record → ℕ → Answer
-taken_of r reports = record { next = r; outcome = Taken reports }
+taken_of r reports = record { next = r; outcome = Ok reports }

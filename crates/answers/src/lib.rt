@@ -4,11 +4,12 @@
 #![tactic(auto)]
 
 ghost use Rattle.std.specs.Prelude.{◌≡◌, ◌<◌};
+ghost use Rattle.answers.specs.declared.Refusal.{Refusal};
 ghost use Rattle.answers.specs.Record.{started_of, no_record, deeper_of, shallower_of, one_more_of, with_alive, finished_of};
 ghost use Rattle.answers.specs.Bytes.{meaning_of};
 ghost use Rattle.answers.specs.Answers.{refusal_number, outcome_number, nowhere, place_of, outcome_place, refused_of, taken_of};
 
-#[derive(Clone, Copy)]
+#[derive(Clone, Copy, Debug, PartialEq, Eq)]
 pub struct Record {
     pub rows: u64,
     // The depth allowed and the depth now.
@@ -26,8 +27,8 @@ impl Record {
         ensures { result ≡ started_of rows allowed }
     {
         Record {
-            rows: rows,
-            allowed: allowed,
+            rows,
+            allowed,
             depth: 0,
             alive: 0,
             positions: 0,
@@ -47,7 +48,7 @@ impl Record {
         requires { self.depth < 40 }
         ensures { result ≡ deeper_of self }
     {
-        self.depth = self.depth + 1;
+        self.depth += 1;
         self
     }
 
@@ -56,7 +57,7 @@ impl Record {
         requires { 0 < self.depth }
         ensures { result ≡ shallower_of self }
     {
-        self.depth = self.depth - 1;
+        self.depth -= 1;
         self
     }
 
@@ -65,7 +66,7 @@ impl Record {
         requires { self.positions < 2147483647 }
         ensures { result ≡ one_more_of self }
     {
-        self.positions = self.positions + 1;
+        self.positions += 1;
         self
     }
 
@@ -89,7 +90,7 @@ impl Record {
 }
 
 // What an event byte means, with its label.
-#[derive(Clone, Copy)]
+#[derive(Clone, Copy, Debug, PartialEq, Eq)]
 pub enum Event {
     Open(u64),
     Point(u64),
@@ -100,21 +101,23 @@ pub enum Event {
     Unknown,
 }
 
-pub fn event_of(byte: u8) -> Event
-    ensures { result ≡ meaning_of byte }
-{
-    match byte {
-        0..=31 => Event::Open(byte as u64),
-        32..=63 => Event::Point((byte - 32) as u64),
-        64 => Event::Close,
-        65 => Event::End,
-        66..=97 => Event::CloseOf((byte - 66) as u64),
-        _ => Event::Unknown,
+impl From<u8> for Event {
+    ghost from_gives = { λ byte event. event ≡ meaning_of byte };
+
+    fn from(byte: u8) -> Event {
+        match byte {
+            0..=31 => Event::Open(u64::from(byte)),
+            32..=63 => Event::Point(u64::from(byte - 32)),
+            64 => Event::Close,
+            65 => Event::End,
+            66..=97 => Event::CloseOf(u64::from(byte - 66)),
+            _ => Event::Unknown,
+        }
     }
 }
 
 // The place that a refusal names, in three numbers; 0 where it names none.
-#[derive(Clone, Copy)]
+#[derive(Clone, Copy, Debug, PartialEq, Eq)]
 pub struct Place {
     // 7: the word of work memory, from 0.
     pub word: u64,
@@ -137,7 +140,7 @@ impl Place {
 }
 
 // Why a call is refused, in the order of checking; the first five are the table's.
-#[derive(Clone, Copy)]
+#[derive(Clone, Copy, Debug, PartialEq, Eq)]
 pub enum Refusal {
     Table(table::Refusal),
     // Rows or depth allowed out of range, work length wrong, or reports shorter than rows + 1.
@@ -205,56 +208,60 @@ impl Refusal {
     }
 }
 
+impl From<table::Refusal> for Refusal {
+    ghost from_gives = { λ why refusal. refusal ≡ Refusal.Table why };
+
+    fn from(why: table::Refusal) -> Refusal {
+        Refusal::Table(why)
+    }
+}
+
 // What became of a call: taken, with the number of reports, or refused.
-#[derive(Clone, Copy)]
-pub enum Outcome {
-    Taken(u64),
-    Refused(Refusal),
-}
-
-impl Outcome {
-    // The refusal's number, and 0 where the call was taken.
-    pub fn number(self) -> u64
-        ensures { result ≡ outcome_number self }
-    {
-        match self {
-            Outcome::Taken(_) => 0,
-            Outcome::Refused(why) => why.number(),
-        }
-    }
-
-    // The refusal's place, and none where the call was taken.
-    pub fn place(self) -> Place
-        ensures { result ≡ outcome_place self }
-    {
-        match self {
-            Outcome::Taken(_) => Place::none(),
-            Outcome::Refused(why) => why.place(),
-        }
-    }
-}
+pub type Outcome = Result<u64, Refusal>;
 
 // The answer of a call: the next record, or where it is refused the old one.
-#[derive(Clone, Copy)]
+#[derive(Clone, Copy, Debug, PartialEq, Eq)]
 pub struct Answer {
     pub next: Record,
     pub outcome: Outcome,
 }
 
-pub fn refused(next: Record, why: Refusal) -> Answer
-    ensures { result ≡ refused_of next why }
-{
-    Answer {
-        next: next,
-        outcome: Outcome::Refused(why),
+impl Answer {
+    pub fn taken(next: Record, reports: u64) -> Answer
+        ensures { result ≡ taken_of next reports }
+    {
+        Answer {
+            next,
+            outcome: Ok(reports),
+        }
     }
-}
 
-pub fn taken(next: Record, reports: u64) -> Answer
-    ensures { result ≡ taken_of next reports }
-{
-    Answer {
-        next: next,
-        outcome: Outcome::Taken(reports),
+    pub fn refused(next: Record, why: Refusal) -> Answer
+        ensures { result ≡ refused_of next why }
+    {
+        Answer {
+            next,
+            outcome: Err(why),
+        }
+    }
+
+    // The refusal's number, and 0 where the call was taken.
+    pub fn number(self) -> u64
+        ensures { result ≡ outcome_number self.outcome }
+    {
+        match self.outcome {
+            Ok(_) => 0,
+            Err(why) => why.number(),
+        }
+    }
+
+    // The refusal's place, and none where the call was taken.
+    pub fn place(self) -> Place
+        ensures { result ≡ outcome_place self.outcome }
+    {
+        match self.outcome {
+            Ok(_) => Place::none(),
+            Err(why) => why.place(),
+        }
     }
 }

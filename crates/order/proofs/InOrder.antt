@@ -1,5 +1,6 @@
 -- What memory in order is: its rows in use can be stepped, all other words are 0, and each row has a position it may have;
 -- its labels' words are those of the open levels. Assumes nothing.
+use Rattle.std.specs.Prelude.{None}
 use mathlib.Core.Path.{◌≡◌, refl, sym, ap, ◌∙◌}
 use mathlib.Core.Bool.{Bool, true, ◌&&◌}
 use mathlib.Core.List.{List}
@@ -16,7 +17,6 @@ use Rattle.places.specs.Memory.{RowIn, RowsIn, LabelsIn}
 use Rattle.places.proofs.Zeros.{rest_of_zeros, row_of_zeros}
 use Rattle.places.proofs.Labels.{labels_of_zeros}
 use Rattle.order.specs.declared.Shape.{Shape}
-use Rattle.order.specs.declared.Place.TheVariants.{Fine}
 use Rattle.order.specs.Order.{cell_right, label_right, labels_from, word_right, first_fault}
 use Rattle.order.proofs.Cells.{row_fits, cell_in_rows, row_unused, first_position, later_position, level_unused, state_used}
 use Rattle.order.proofs.Search.{at_cell, at_label, fine_all}
@@ -85,7 +85,7 @@ module _ (s : Shape) (words : List ℕ) (right : (r c : ℕ) → r < s.rows → 
       rw e at z
 
 -- Memory in order: each word of its rows is, and its labels' words are those of the open levels.
-module _ (s : Shape) (words : List ℕ) (fine : first_fault s words ≡ Fine) (long : labels_from s + s.allowed ≡ length words) where
+module _ (s : Shape) (words : List ℕ) (fine : first_fault s words ≡ None) (long : labels_from s + s.allowed ≡ length words) where
   right_at : (i : ℕ) → i < length words → word_right s words i ≡ true
   unfolding first_fault
   right_at i h = fine_all (word_right s words) (length words) 0 fine i (omega arith) (omega arith)

@@ -1,4 +1,5 @@
 -- Laws of the search for the first word at fault, beside those of every search (meaning/proofs/Search). Assumes nothing.
+use Rattle.std.specs.Prelude.{Option, None, Some}
 use mathlib.Core.Path.{◌≡◌, refl, sym, ◌∙◌}
 use mathlib.Core.Bool.{Bool, true, false, cond}
 use mathlib.Core.Logic.{⊎_elim}
@@ -14,8 +15,6 @@ use Rattle.meaning.proofs.Search.{decided, Rest}
 use Rattle.places.specs.Places.{row_length, label_level}
 use Rattle.places.proofs.Rows.{row_fits}
 use Rattle.order.specs.declared.Shape.{Shape}
-use Rattle.order.specs.declared.Place.{Place}
-use Rattle.order.specs.declared.Place.TheVariants.{Fine, At}
 use Rattle.order.specs.Order.{cell_right, label_right, labels_from, word_right, first_from}
 
 module _ (s : Shape) (words : List ℕ) where
@@ -34,11 +33,11 @@ module _ (s : Shape) (words : List ℕ) where
       rw (e, le-ltb (labels_from s + l) (labels_from s) (omega arith), back)
 
 -- The place found, or else another.
-abbrev or_else : Place → Place → Place
-or_else Fine q = q
-or_else (At j) q = At j
+abbrev or_else : Option ℕ → Option ℕ → Option ℕ
+or_else None q = q
+or_else (Some j) q = Some j
 
-cond_or : (b : Bool) (p q : Place) (j : ℕ) → cond b (or_else p q) (At j) ≡ or_else (cond b p (At j)) q
+cond_or : (b : Bool) (p q : Option ℕ) (j : ℕ) → cond b (or_else p q) (Some j) ≡ or_else (cond b p (Some j)) q
 cond_or true p q j = refl
 cond_or false p q j = refl
 
@@ -52,20 +51,20 @@ module _ (right : ℕ → Bool) where
       rw (suc-add n m, split n m (i + 1), e) (cond_or (right i) _ _ i)
 
   -- Where nothing is found, all is right.
-  pub fine_all : (n i : ℕ) → first_from right i n ≡ Fine → (j : ℕ) → i ≤ j → j < i + n → right j ≡ true
+  pub fine_all : (n i : ℕ) → first_from right i n ≡ None → (j : ℕ) → i ≤ j → j < i + n → right j ≡ true
   fine_all n i e =
-      ⊎_elim (λ h. h.1) (λ h. let no : At h.place ≡ Fine = sym h.is ∙ e in let z : ◌≡◌ {A = ℕ} 0 1 = cc in absurd (omega (arith, z)))
-      (decided At Fine right n i)
+      ⊎_elim (λ h. h.1) (λ h. let no : Some h.place ≡ None = sym h.is ∙ e in let z : ◌≡◌ {A = ℕ} 0 1 = cc in absurd (omega (arith, z)))
+      (decided Some None right n i)
 
   -- A search over n places, of which the first i passed, and then m that are searched together.
   module _ (n : ℕ) where
-    parted : (m i : ℕ) → Rest At Fine right n i → i + m ≤ n → or_else (first_from right i m) (first_from right (i + m) (n - (i + m))) ≡ first_from right 0 n
+    parted : (m i : ℕ) → Rest Some None right n i → i + m ≤ n → or_else (first_from right i m) (first_from right (i + m) (n - (i + m))) ≡ first_from right 0 n
     parted m i h l =
         let z : n - i ≡ m + (n - (i + m)) = omega arith in
         sym (split m (n - (i + m)) i) ∙ (rw z at h)
 
-    pub rest_fine : (m i j : ℕ) → Rest At Fine right n i → i + m ≤ n → first_from right i m ≡ Fine → j ≡ i + m → Rest At Fine right n j
+    pub rest_fine : (m i j : ℕ) → Rest Some None right n i → i + m ≤ n → first_from right i m ≡ None → j ≡ i + m → Rest Some None right n j
     rest_fine m i j h l e q = rw q (rw e at (parted m i h l))
 
-    pub rest_fault : (m i k : ℕ) → Rest At Fine right n i → i + m ≤ n → first_from right i m ≡ At k → At k ≡ first_from right 0 n
+    pub rest_fault : (m i k : ℕ) → Rest Some None right n i → i + m ≤ n → first_from right i m ≡ Some k → Some k ≡ first_from right 0 n
     rest_fault m i k h l e = rw e at (parted m i h l)

@@ -1,10 +1,8 @@
 -- In order, word by word (01, "In order means", and 02, K2), and the first word that breaks it. Definitions only.
-use Rattle.std.specs.Prelude.{Bool, true, cond, ◌&&◌, List, ℕ, zero, suc, ◌+◌, ◌-◌, ◌/◌, ◌%◌, ltb, leb, eqb, length, get_or}
+use Rattle.std.specs.Prelude.{Bool, Option, None, Some, true, cond, ◌&&◌, List, ℕ, zero, suc, ◌+◌, ◌-◌, ◌/◌, ◌%◌, ltb, leb, eqb, length, get_or}
 use Rattle.meaning.specs.Search.{searched}
 use Rattle.places.specs.Places.{position_at, level_of, part_of, row_length, row_at, label_level}
 use Rattle.order.specs.declared.Shape.{Shape}
-use Rattle.order.specs.declared.Place.{Place}
-use Rattle.order.specs.declared.Place.TheVariants.{Fine, At}
 
 -- The position of row r: 0 in row 0; else above that of the row before, whatever that is, and at most the positions read.
 abbrev pub position_right : Shape → List ℕ → ℕ → ℕ → Bool
@@ -36,9 +34,9 @@ word_right s words i =
     (label_right s (label_level (i - labels_from s)) (get_or words i 0))
 
 -- The first place from i on, among n, at which a test fails.
-abbrev pub first_from : (ℕ → Bool) → ℕ → ℕ → Place
-first_from right i n = searched At Fine right i n
+abbrev pub first_from : (ℕ → Bool) → ℕ → ℕ → Option ℕ
+first_from right i n = searched Some None right i n
 
 -- The first word out of order, in any row and level or of any label.
-unfoldable pub first_fault : Shape → List ℕ → Place
+unfoldable pub first_fault : Shape → List ℕ → Option ℕ
 first_fault s words = first_from (word_right s words) 0 (length words)

@@ -3,12 +3,12 @@
 // Any words are judged, as long as they are as many as the rows and levels ask for. The rows come first, then the labels.
 #![tactic(auto)]
 
-ghost use Rattle.std.specs.Prelude.{◌≡◌, ℕ, ◌+◌, ◌*◌, ◌<◌, ◌≤◌, length};
+ghost use Rattle.std.specs.Prelude.{◌≡◌, ℕ, ◌+◌, ◌*◌, ◌<◌, ◌≤◌, None, length};
 ghost use Rattle.places.specs.Places.{level_length, row_length, row_at, state_at};
 ghost use Rattle.order.specs.Order.{cell_right, label_right, labels_from, word_right, first_from, first_fault};
 
 // What the words are judged by.
-#[derive(Clone, Copy)]
+#[derive(Clone, Copy, Debug, PartialEq, Eq)]
 pub struct Shape {
     // How many rows memory has, row 0 among them, and how many levels each.
     pub rows: usize,
@@ -21,12 +21,6 @@ pub struct Shape {
     pub positions: u64,
     // The number of labels.
     pub labels: u64,
-}
-
-#[derive(Clone, Copy)]
-pub enum Place {
-    Fine,
-    At(usize),
 }
 
 // Is the word at c of row r in order?
@@ -53,51 +47,44 @@ fn cell_right(words: &[u64], s: Shape, r: usize, c: usize) -> bool
 }
 
 // The first word out of order among those of level l in row r.
-fn level_fault(words: &[u64], s: Shape, r: usize, l: usize) -> Place
+fn level_fault(words: &[u64], s: Shape, r: usize, l: usize) -> Option<usize>
     requires { (s.allowed ≤ 40) × (s.rows ≤ 65) × (r < s.rows) × (l ≤ s.allowed) × (row_at s.allowed s.rows ≤ length words.now) }
     ensures { result ≡ first_from (word_right s words.now) (row_at s.allowed r + state_at l) level_length }
 {
     let from = r * places::row_length(s.allowed);
     let at = places::state_at(l);
     if !cell_right(words, s, r, at) {
-        return Place::At(from + at);
+        return Some(from + at);
     }
     let at = places::selecting_at(l);
     if !cell_right(words, s, r, at) {
-        return Place::At(from + at);
+        return Some(from + at);
     }
     let at = places::rejecting_at(l);
     if !cell_right(words, s, r, at) {
-        return Place::At(from + at);
+        return Some(from + at);
     }
-    Place::Fine
+    None
 }
 
 // The first word out of order, in any row and level.
-fn rows_fault(words: &[u64], s: Shape) -> Place
+fn rows_fault(words: &[u64], s: Shape) -> Option<usize>
     requires { (s.allowed ≤ 40) × (s.rows ≤ 65) × (row_at s.allowed s.rows ≤ length words.now) }
     ensures { result ≡ first_from (word_right s words.now) 0 (labels_from s) }
 {
-    let rows = s.rows;
-    let allowed = s.allowed;
-    let w = places::row_length(allowed);
-    let mut place = Place::Fine;
-    let mut r = 0;
-    'rows: while r < rows {
+    let w = places::row_length(s.allowed);
+    let mut place = None;
+    'rows: for r in 0..s.rows {
         if !cell_right(words, s, r, places::POSITION) {
-            place = Place::At(r * w + places::POSITION);
+            place = Some(r * w + places::POSITION);
             break 'rows;
         }
-        let mut l = 0;
-        while l <= allowed {
-            let fault = level_fault(words, s, r, l);
-            if let Place::At(_) = fault {
-                place = fault;
+        for l in 0..s.allowed + 1 {
+            if let Some(fault) = level_fault(words, s, r, l) {
+                place = Some(fault);
                 break 'rows;
             }
-            l += 1;
         }
-        r += 1;
     }
     place
 }
@@ -114,30 +101,27 @@ fn label_right(s: Shape, level: usize, x: u64) -> bool
 }
 
 // The first word out of order where none of the rows' is.
-fn labels_fault(words: &[u64], s: Shape) -> Place
+fn labels_fault(words: &[u64], s: Shape) -> Option<usize>
     requires allowed_bound { (s.allowed ≤ 40) × (s.rows ≤ 65) × (labels_from s + s.allowed ≡ length words.now) }
-    requires value { Place.Fine ≡ first_from (word_right s words.now) 0 (labels_from s) }
+    requires value { None ≡ first_from (word_right s words.now) 0 (labels_from s) }
     ensures { result ≡ first_fault s words.now }
 {
     let from = s.rows * places::row_length(s.allowed);
-    let mut i: usize = 0;
-    while i < s.allowed {
+    for i in 0..s.allowed {
         if !label_right(s, places::label_level(i), words[from + i]) {
-            return Place::At(from + i);
+            return Some(from + i);
         }
-        i += 1;
     }
-    Place::Fine
+    None
 }
 
 // The first word out of order, in any row and level or of any label.
-pub fn first_fault(words: &[u64], s: Shape) -> Place
+pub fn first_fault(words: &[u64], s: Shape) -> Option<usize>
     requires { (s.allowed ≤ 40) × (s.rows ≤ 65) × (labels_from s + s.allowed ≡ length words.now) }
     ensures { result ≡ first_fault s words.now }
 {
-    let fault = rows_fault(words, s);
-    match fault {
-        Place::At(_) => fault,
-        Place::Fine => labels_fault(words, s),
+    match rows_fault(words, s) {
+        Some(place) => Some(place),
+        None => labels_fault(words, s),
     }
 }

@@ -1,10 +1,6 @@
 -- `labels_fault` meets its contract. The invariant of the loop: what is left of the search is the whole search.
-use Prim.Native.Nat.{◌-◌}
 use Rattle.order.proofs.LabelsFaultTurns.{AtLabel}
 use Rattle.order.proofs.labels_fault.Given as goal
 
 abbrev pub invariant-loop-i : goal.invariant-loop-i
 invariant-loop-i l = AtLabel l.s l.words l.from l.i
-
-abbrev pub decreases-loop-i : goal.decreases-loop-i
-decreases-loop-i l = l.s.allowed - l.i
