@@ -7,7 +7,7 @@ use borrow.Author.Tests.{ltb-true, leb-true, lt-leb, le-leb}
 use lib.Dec.{eqb, leb, ltb}
 use lib.ListN.{get_or}
 use Rattle.bodies.specs.Sound.{states_in, labels_in, start_in}
-use Rattle.table.specs.File.{Sizes, header_right, between}
+use Rattle.table.specs.File.{header_right, between}
 use Rattle.meaning.proofs.Tests.{both_true}
 
 pub below_between : (low high x : ℕ) → x < low → between low high x ≡ false
@@ -46,9 +46,3 @@ in_range f e =
       few_labels = k.1;
       start_is_in = ltb-true (start_in f) (states_in f) (both_true start bodies g.1).0;
     }
-
--- n and k as they are read from a file whose header passes.
-pub sizes_read : (f : List ℕ) → header_right f ≡ true → (n k : ℕ) → n ≡ states_in f → k ≡ labels_in f → Sizes f n k
-sizes_read f e n k en ek =
-    let r = in_range f e in
-    record { states_are = en; labels_are = ek; few_states = rw en r.few_states; few_labels = rw ek r.few_labels }
