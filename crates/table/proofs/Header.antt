@@ -10,15 +10,6 @@ use Rattle.bodies.specs.Sound.{states_in, labels_in, start_in}
 use Rattle.table.specs.File.{header_right, between}
 use Rattle.meaning.proofs.Tests.{both_true}
 
-pub below_between : (low high x : ℕ) → x < low → between low high x ≡ false
-below_between low high x h = rw (lt-leb low x h)
-
-pub above_between : (low high x : ℕ) → low ≤ x → high < x → between low high x ≡ false
-above_between low high x h g = rw (le-leb low x h, lt-leb x high g)
-
-pub in_between : (low high x : ℕ) → low ≤ x → x ≤ high → between low high x ≡ true
-in_between low high x h g = rw (le-leb low x h, le-leb x high g)
-
 between_bounds : (low high x : ℕ) → between low high x ≡ true → (low ≤ x) × (x ≤ high)
 between_bounds low high x e =
     let h = both_true (leb low x) (leb x high) e in

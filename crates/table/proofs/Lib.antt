@@ -2,6 +2,5 @@
 pub mod Found
 pub mod Header
 pub mod Lines
-pub mod Limits
 pub mod Named
 pub mod Sound

@@ -97,16 +97,7 @@ fn header_right(table: &[u8]) -> bool
 {
     let n = bodies::byte(table, 0);
     let k = bodies::byte(table, 1);
-    if n < 1 || 64 < n {
-        return false;
-    }
-    if k < 1 || 32 < k {
-        return false;
-    }
-    if n <= bodies::byte(table, 2) {
-        return false;
-    }
-    bodies::byte(table, 3) == 5
+    (1..=64).contains(&n) && (1..=32).contains(&k) && bodies::byte(table, 2) < n && bodies::byte(table, 3) == 5
 }
 
 // The first of `count` bytes from a place on that is not below a limit, counted from there.
