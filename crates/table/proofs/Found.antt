@@ -16,10 +16,6 @@ pub is_wrong : {A : Type 0} {right : Bool} {wrong told : A} → Some told ≡ un
 is_wrong {right = true} e = absurd cc
 is_wrong {right = false} e = (refl, cc)
 
-pub is_right : {A : Type 0} {right : Bool} (wrong : A) → None ≡ unless right wrong → right ≡ true
-is_right {right = true} wrong e = refl
-is_right {right = false} wrong e = absurd cc
-
 module _ (n : ℕ) (right : ℕ → Bool) {A : Type 0} (said : ℕ → A) where
   -- The search stops at the first place that is not right.
   pub stops :

@@ -1,9 +1,9 @@
 -- What a header that passes says of n, k and the start state, and how a range's test comes out. Assumes nothing.
-use mathlib.Core.Bool.{true, false, ◌&&◌}
+use mathlib.Core.Bool.{true, ◌&&◌}
 use mathlib.Core.List.{List}
 use mathlib.Core.Path.{◌≡◌}
 use Prim.Native.Nat.{ℕ, ◌<◌, ◌≤◌}
-use borrow.Author.Tests.{ltb-true, leb-true, lt-leb, le-leb}
+use borrow.Author.Tests.{ltb-true, leb-true}
 use lib.Dec.{eqb, leb, ltb}
 use lib.ListN.{get_or}
 use Rattle.bodies.specs.Sound.{states_in, labels_in, start_in}

@@ -155,10 +155,3 @@ refusal_inside (Body body byte) = byte
 abbrev pub number_of : Reading → ℕ
 number_of (Ok sizes) = 0
 number_of (Err why) = refusal_number why
-
--- Are so many bytes from a place on below a limit, and which of them is the first that is not?
-abbrev pub all_below : List ℕ → ℕ → ℕ → ℕ → Bool
-all_below f from count limit = all count (λ j. ltb (get_or f (from + j) 0) limit)
-
-abbrev pub first_above : List ℕ → ℕ → ℕ → ℕ → ℕ
-first_above f from count limit = first_wrong count (λ j. ltb (get_or f (from + j) 0) limit)

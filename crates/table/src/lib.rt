@@ -1,14 +1,13 @@
-// The table file: which files are taken (refusals 1 to 5 of 01), and the automaton's steps read off a file that was.
+// The table file: which files are taken, and why the others are refused (refusals 1 to 5 of 01).
 //
-// The file's bytes are themselves the table, lent to every call. `read` takes any bytes. The steps ask for a file that
-// `read` takes (`Sound`), and for states and labels below its n and k; each answers what `table_of` the bytes says.
+// `read` takes any bytes. A file that it takes can be stepped by: it is `Sound`, and so a `Table`.
 #![tactic(auto)]
 
-ghost use Rattle.std.specs.Prelude.{◌≡◌, ◌+◌, ◌<◌, ◌≤◌, length};
+ghost use Rattle.std.specs.Prelude.{◌≡◌, ◌+◌, ◌<◌, ◌≤◌, leb, length, position};
 ghost use Rattle.meaning.specs.Table.{body_at};
 ghost use Rattle.bodies.specs.Sound.{states_in, labels_in};
-ghost use Rattle.table.specs.File.{header_right, two_bytes, field_right, field_found, entry_found, byte_found, body_found};
-ghost use Rattle.table.specs.File.{all_below, first_above, unless, reading_of};
+ghost use Rattle.table.specs.File.{header_right, two_bytes, field_right, reading_of};
+ghost use Rattle.table.specs.File.{field_found, entry_found, byte_found, body_found};
 ghost use Rattle.table.specs.File.{field_number, refusal_number, refusal_part, refusal_inside};
 
 pub use bodies::Table;
@@ -97,21 +96,17 @@ fn header_right(table: &[u8]) -> bool
 {
     let n = bodies::byte(table, 0);
     let k = bodies::byte(table, 1);
-    (1..=64).contains(&n) && (1..=32).contains(&k) && bodies::byte(table, 2) < n && bodies::byte(table, 3) == 5
+    (1..=64).contains(&n)
+        && (1..=32).contains(&k)
+        && bodies::byte(table, 2) < n
+        && bodies::byte(table, 3) == 5
 }
 
-// The first of `count` bytes from a place on that is not below a limit, counted from there.
-fn first_above(file: &[u8], from: u64, count: u64, limit: u64) -> Option<u64>
-    requires { from + count ≤ length file.now }
-    ensures { result ≡ unless (all_below file.now from count limit) (first_above file.now from count limit) }
+// The first byte that is not below a limit.
+fn first_above(bytes: &[u8], limit: u64) -> Option<usize>
+    ensures { result ≡ position (λ b. leb limit b) bytes.now }
 {
-    for j in 0..count {
-        let at = from + j;
-        if limit <= bodies::byte(file, at) {
-            return Some(j);
-        }
-    }
-    None
+    bytes.iter().position(|byte| limit <= u64::from(*byte))
 }
 
 // A file with a header that is right, and as long as header and contents at least.
@@ -193,7 +188,9 @@ impl Headed<'_> {
     {
         let sizes = self.sizes();
         let limit = if i < 4 { sizes.states } else { 2 };
-        first_above(self.file, sizes.body_at(i), sizes.body_length(i), limit)
+        let at = sizes.body_at(i) as usize;
+        let body = &self.file[at..at + sizes.body_length(i) as usize];
+        first_above(body, limit).map(|place| place as u64)
     }
 
     // The first body that holds a byte that it may not, and the first such byte of it.
