@@ -135,7 +135,8 @@ impl Headed<'_> {
         requires { at + 1 < length self.now.file.now }
         ensures { result ≡ two_bytes self.now.file.now at }
     {
-        u64::from(self.file[at as usize]) + 256 * u64::from(self.file[at as usize + 1])
+        let at = at as usize;
+        u64::from(u16::from_le_bytes([self.file[at], self.file[at + 1]]))
     }
 
     // Is a field of contents entry i right?
