@@ -1,23 +1,14 @@
 -- What a header that passes says of n, k and the start state, and how a range's test comes out. Assumes nothing.
-use mathlib.Core.Bool.{true, false, ◌&&◌}
+use mathlib.Core.Bool.{true, ◌&&◌}
 use mathlib.Core.List.{List}
 use mathlib.Core.Path.{◌≡◌}
 use Prim.Native.Nat.{ℕ, ◌<◌, ◌≤◌}
-use borrow.Author.Tests.{ltb-true, leb-true, lt-leb, le-leb}
+use borrow.Author.Tests.{ltb-true, leb-true}
 use lib.Dec.{eqb, leb, ltb}
 use lib.ListN.{get_or}
 use Rattle.bodies.specs.Sound.{states_in, labels_in, start_in}
-use Rattle.table.specs.File.{Sizes, header_right, between}
+use Rattle.table.specs.File.{header_right, between}
 use Rattle.meaning.proofs.Tests.{both_true}
-
-pub below_between : (low high x : ℕ) → x < low → between low high x ≡ false
-below_between low high x h = rw (lt-leb low x h)
-
-pub above_between : (low high x : ℕ) → low ≤ x → high < x → between low high x ≡ false
-above_between low high x h g = rw (le-leb low x h, lt-leb x high g)
-
-pub in_between : (low high x : ℕ) → low ≤ x → x ≤ high → between low high x ≡ true
-in_between low high x h g = rw (le-leb low x h, le-leb x high g)
 
 between_bounds : (low high x : ℕ) → between low high x ≡ true → (low ≤ x) × (x ≤ high)
 between_bounds low high x e =
@@ -46,9 +37,3 @@ in_range f e =
       few_labels = k.1;
       start_is_in = ltb-true (start_in f) (states_in f) (both_true start bodies g.1).0;
     }
-
--- n and k as they are read from a file whose header passes.
-pub sizes_read : (f : List ℕ) → header_right f ≡ true → (n k : ℕ) → n ≡ states_in f → k ≡ labels_in f → Sizes f n k
-sizes_read f e n k en ek =
-    let r = in_range f e in
-    record { states_are = en; labels_are = ek; few_states = rw en r.few_states; few_labels = rw ek r.few_labels }

@@ -8,16 +8,15 @@ use Prim.Native.Nat.{ℕ, ◌+◌, ◌*◌, ◌<◌}
 use native.Mathlib.Omega.{arith}
 use borrow.Author.Tests.{eqb-true, ltb-true, not-true, not-false}
 use lib.Arith.{digits_lt}
+use Rattle.std.proofs.Common.{Result, Ok, Err}
 use Rattle.meaning.specs.Refusals.{FirstAt, applies_at, gives_at}
 use Rattle.meaning.proofs.Refusals
 use Rattle.meaning.proofs.Refusals.{given_exactly, first_gives, none_taken}
 use Rattle.meaning.specs.Table.{body_length, in_body, table_of}
 use Rattle.bodies.specs.Sound.{Sound, states_in, labels_in}
 use Rattle.table.specs.File.{header_right, length_right, body_limit, byte_right, body_right, bodies_right, by_contents, by_bodies}
-use Rattle.table.specs.File.{lines, reading_of, refusal_number, number_of}
+use Rattle.table.specs.File.{lines, Reading, reading_of, refusal_number, number_of}
 use Rattle.table.specs.Named.{Named}
-use Rattle.table.specs.declared.Reading.{Reading}
-use Rattle.table.specs.declared.Reading.TheVariants.{Taken, Refused}
 use Rattle.table.specs.declared.Refusal.{Refusal}
 use Rattle.table.specs.declared.Refusal.TheVariants.{Short, Header, Contents, Length, Body}
 use Rattle.meaning.proofs.Tests.{all_holds}
@@ -53,20 +52,20 @@ sound f header size bodies =
 
 -- A file is taken exactly when none of the five lines applies.
 pub taken_exactly : (f : List ℕ) → (number_of (reading_of f) ≡ 0) ↔ ((i : ℕ) → applies_at (lines f) i ≡ false)
-taken_exactly f = Refusals.taken_exactly number_of (Taken (states_in f) (labels_in f)) (lines f) tt
+taken_exactly f = Refusals.taken_exactly number_of (Ok (states_in f, labels_in f)) (lines f) tt
 
 -- A refusal is the first reason exactly when it is what its line gives, and its line is the first that applies.
 exactly_at :
-    (f : List ℕ) (why given : Refusal) (i : ℕ) → i < 5 → gives_at (lines f) (Taken (states_in f) (labels_in f)) i ≡ Refused given →
-    refusal_number given ≡ refusal_number why → (reading_of f ≡ Refused why) ↔ (FirstAt (lines f) i × (given ≡ why))
+    (f : List ℕ) (why given : Refusal) (i : ℕ) → i < 5 → gives_at (lines f) (Ok (states_in f, labels_in f)) i ≡ Err given →
+    refusal_number given ≡ refusal_number why → (reading_of f ≡ Err why) ↔ (FirstAt (lines f) i × (given ≡ why))
 exactly_at f why given i l gives number =
-    let otherwise : Reading = Taken (states_in f) (labels_in f) in (
+    let otherwise : Reading = Ok (states_in f, labels_in f) in (
       λ e.
           let h = (given_exactly number_of otherwise (lines f) tt i l).0 (ap number_of e ∙ sym number ∙ sym (ap number_of gives)) in
-          let told : Refused given ≡ Refused why = sym gives ∙ sym (first_gives number_of otherwise (lines f) i h) ∙ e in
+          let told : Err given ≡ Err why = sym gives ∙ sym (first_gives number_of otherwise (lines f) i h) ∙ e in
           let same : given ≡ why = cc in
           (h, same),
-      λ h. first_gives number_of otherwise (lines f) i h.0 ∙ gives ∙ ap Refused h.1,
+      λ h. first_gives number_of otherwise (lines f) i h.0 ∙ gives ∙ ap Err h.1,
     )
 
 -- The place of a refusal's line in the list.
@@ -79,7 +78,7 @@ line_of (Body body byte) = 4
 
 -- Each refusal is given exactly when its line applies, none before it does, and the place that it names is the first wrong
 -- one.
-pub refused_exactly : (f : List ℕ) (why : Refusal) → (reading_of f ≡ Refused why) ↔ (FirstAt (lines f) (line_of why) × Named f why)
+pub refused_exactly : (f : List ℕ) (why : Refusal) → (reading_of f ≡ Err why) ↔ (FirstAt (lines f) (line_of why) × Named f why)
 refused_exactly f Short =
     let h = exactly_at f Short Short 0 (omega arith) refl refl in (λ e. ((h.0 e).0, tt), λ g. h.1 (g.0, refl))
 refused_exactly f Header =
@@ -95,10 +94,14 @@ refused_exactly f (Body body byte) =
     let first : FirstAt (lines f) 4 → Named f (by_bodies f) = λ g. bodies_named f (not-true _ g.applies) in
     (λ e. ((h.0 e).0, subst (Named f) (h.0 e).1 (first (h.0 e).0)), λ g. h.1 (g.0, one_byte f (first g.0) g.1))
 
+same_sizes : {E : Type 0} {n k m l : ℕ} → ◌≡◌ {A = Result (ℕ × ℕ) E} (Ok (n, k)) (Ok (m, l)) → (n ≡ m) × (k ≡ l)
+same_sizes {n = n} {k = k} {m = m} {l = l} e =
+    let pair : ◌≡◌ {A = ℕ × ℕ} (n, k) (m, l) = cc in (ap (λ p. p.0) pair, ap (λ p. p.1) pair)
+
 -- A file that is taken can be stepped by, and is taken with its own n and k.
 pub taken_is_sound :
-    (f : List ℕ) (n k : ℕ) → reading_of f ≡ Taken n k → Sound f × (n ≡ (table_of f).states) × (k ≡ (table_of f).labels)
+    (f : List ℕ) (n k : ℕ) → reading_of f ≡ Ok (n, k) → Sound f × (n ≡ (table_of f).states) × (k ≡ (table_of f).labels)
 taken_is_sound f n k e =
     let h : (i : ℕ) → applies_at (lines f) i ≡ false = (taken_exactly f).0 (ap number_of e) in
-    let same : Taken n k ≡ Taken (states_in f) (labels_in f) = sym e ∙ none_taken number_of (Taken (states_in f) (labels_in f)) (lines f) h in
-    (sound f (not-false _ (h 1)) (not-false _ (h 3)) (not-false _ (h 4)), cc, cc)
+    let sizes = same_sizes (sym e ∙ none_taken number_of (Ok (states_in f, labels_in f)) (lines f) h) in
+    (sound f (not-false _ (h 1)) (not-false _ (h 3)) (not-false _ (h 4)), sizes.0, sizes.1)

@@ -1,6 +1,6 @@
 -- Which files are tables: refusals 1 to 5 of 01, line by line, 3 and 5 with the places of 02's K3. Definitions only.
 -- A file is the list of its bytes; past its end it reads as 0, so each line is a test on any file.
-use Rattle.std.specs.Prelude.{List, [], ◌∷◌, Bool, not, cond, ◌&&◌, ◌≡◌, ℕ, ◌+◌, ◌*◌, ◌≤◌, eqb, leb, ltb, get_or, length, Result, Ok, Err}
+use Rattle.std.specs.Prelude.{List, [], ◌∷◌, Bool, not, cond, ◌&&◌, ℕ, ◌+◌, ◌*◌, eqb, leb, ltb, get_or, length, Option, Some, None, Result, Ok, Err}
 use Rattle.meaning.specs.Masks.{all}
 use Rattle.meaning.specs.Refusals.{Line, first_of}
 use Rattle.meaning.specs.Search.{first_wrong}
@@ -10,13 +10,6 @@ use Rattle.table.specs.declared.Field.{Field}
 use Rattle.table.specs.declared.Field.TheVariants as field
 use Rattle.table.specs.declared.Refusal.{Refusal}
 use Rattle.table.specs.declared.Refusal.TheVariants.{Short, Header, Contents, Length, Body}
-
--- n and k are the file's, and in range.
-pub record Sizes (f : List ℕ) (n k : ℕ) : Type 0 where
-  pub states_are : n ≡ states_in f
-  pub labels_are : k ≡ labels_in f
-  pub few_states : n ≤ 64
-  pub few_labels : k ≤ 32
 
 -- x is from low to high.
 abbrev pub between : ℕ → ℕ → ℕ → Bool
@@ -88,6 +81,22 @@ wrong_body f = first_wrong 5 (body_right f)
 abbrev pub wrong_byte : List ℕ → ℕ → ℕ
 wrong_byte f i = first_wrong (body_length (states_in f) (labels_in f) i) (byte_right f i)
 
+-- What the searches for these answer: nothing where all is right.
+abbrev pub unless : {A : Type 0} → Bool → A → Option A
+unless right wrong = cond right None (Some wrong)
+
+abbrev pub field_found : List ℕ → ℕ → Option Field
+field_found f i = unless (entry_right f i) (wrong_field f i)
+
+abbrev pub entry_found : List ℕ → Option (ℕ × Field)
+entry_found f = unless (contents_right f) (wrong_entry f, wrong_field f (wrong_entry f))
+
+abbrev pub byte_found : List ℕ → ℕ → Option ℕ
+byte_found f i = unless (body_right f i) (wrong_byte f i)
+
+abbrev pub body_found : List ℕ → Option (ℕ × ℕ)
+body_found f = unless (bodies_right f) (wrong_body f, wrong_byte f (wrong_body f))
+
 -- 3 and 5 with their places: entries and bodies are counted from 1, the bytes of a body from 0.
 abbrev pub by_contents : List ℕ → Refusal
 by_contents f = Contents (wrong_entry f + 1) (wrong_field f (wrong_entry f))
@@ -146,7 +155,3 @@ refusal_inside (Body body byte) = byte
 abbrev pub number_of : Reading → ℕ
 number_of (Ok sizes) = 0
 number_of (Err why) = refusal_number why
-
--- The first of so many bytes from a place on that is not below a limit.
-abbrev pub first_above : List ℕ → ℕ → ℕ → ℕ → ℕ
-first_above f from count limit = first_wrong count (λ j. ltb (get_or f (from + j) 0) limit)

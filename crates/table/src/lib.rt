@@ -1,16 +1,17 @@
-// The table file: which files are taken (refusals 1 to 5 of 01), and the automaton's steps read off a file that was.
+// The table file: which files are taken, and why the others are refused (refusals 1 to 5 of 01).
 //
-// The file's bytes are themselves the table, lent to every call. `read` takes any bytes. The steps ask for a file that
-// `read` takes (`Sound`), and for states and labels below its n and k; each answers what `table_of` the bytes says.
+// `read` takes any bytes. A file that it takes can be stepped by: it is `Sound`, and so a `Table`.
 #![tactic(auto)]
 
-ghost use Rattle.std.specs.Prelude.{◌≡◌, ◌+◌, ◌<◌, ◌≤◌, length};
+ghost use Rattle.std.specs.Prelude.{◌≡◌, ◌+◌, ◌<◌, ◌≤◌, leb, length, position};
 ghost use Rattle.meaning.specs.Table.{body_at};
-ghost use Rattle.table.specs.File.{Sizes, header_right, two_bytes, field_right, entry_right, wrong_field, wrong_entry};
-ghost use Rattle.table.specs.File.{first_above, wrong_byte, wrong_body, reading_of};
+ghost use Rattle.bodies.specs.Sound.{states_in, labels_in};
+ghost use Rattle.table.specs.File.{header_right, two_bytes, field_right, reading_of};
+ghost use Rattle.table.specs.File.{field_found, entry_found, byte_found, body_found};
 ghost use Rattle.table.specs.File.{field_number, refusal_number, refusal_part, refusal_inside};
 
 pub use bodies::Table;
+use offsets::Sizes;
 
 // A field of a contents entry.
 #[derive(Clone, Copy, Debug, PartialEq, Eq)]
@@ -95,130 +96,116 @@ fn header_right(table: &[u8]) -> bool
 {
     let n = bodies::byte(table, 0);
     let k = bodies::byte(table, 1);
-    if n < 1 || 64 < n {
-        return false;
-    }
-    if k < 1 || 32 < k {
-        return false;
-    }
-    if n <= bodies::byte(table, 2) {
-        return false;
-    }
-    bodies::byte(table, 3) == 5
+    (1..=64).contains(&n)
+        && (1..=32).contains(&k)
+        && bodies::byte(table, 2) < n
+        && bodies::byte(table, 3) == 5
 }
 
-// The two bytes from a place on, the low one first.
-fn two_bytes(table: &[u8], at: u64) -> u64
-    requires { at + 1 < length table.now }
-    ensures { result ≡ two_bytes table.now at }
+// The first byte that is not below a limit.
+fn first_above(bytes: &[u8], limit: u64) -> Option<usize>
+    ensures { result ≡ position (λ b. leb limit b) bytes.now }
 {
-    bodies::byte(table, at) + 256 * bodies::byte(table, at + 1)
+    bytes.iter().position(|byte| limit <= u64::from(*byte))
 }
 
-// Is a field of contents entry i the one that n and k fix?
-fn field_right(table: &[u8], n: u64, k: u64, i: u64, field: Field) -> bool
-    requires in_bounds { 29 ≤ length table.now }
-    requires sizes { Sizes table.now n k }
-    requires i_bound { i < 5 }
-    ensures { result ≡ field_right table.now i field }
-{
-    let at = 4 + 5 * i;
-    match field {
-        Field::Kind => bodies::byte(table, at) == i + 1,
-        Field::Offset => two_bytes(table, at + 1) == offsets::body_at(n, k, i),
-        Field::Length => two_bytes(table, at + 3) == offsets::body_length(n, k, i),
-    }
+// A file with a header that is right, and as long as header and contents at least.
+#[derive(Clone, Copy)]
+struct Headed<'a> {
+    file: &'a [u8],
+    ghost long: { 29 ≤ length file.now },
+    ghost few: { (states_in file.now ≤ 64) × (labels_in file.now ≤ 32) },
 }
 
-// The first field of a contents entry, counted from 0, that is not the one that n and k fix; the length where the others are.
-fn wrong_field(table: &[u8], n: u64, k: u64, entry: u64) -> Field
-    requires in_bounds { 29 ≤ length table.now }
-    requires sizes { Sizes table.now n k }
-    requires bound { entry < 5 }
-    ensures { result ≡ wrong_field table.now entry }
-{
-    if !field_right(table, n, k, entry, Field::Kind) {
-        return Field::Kind;
-    }
-    if !field_right(table, n, k, entry, Field::Offset) {
-        return Field::Offset;
-    }
-    Field::Length
-}
-
-// Is contents entry i the one that n and k fix?
-fn entry_right(table: &[u8], n: u64, k: u64, i: u64) -> bool
-    requires in_bounds { 29 ≤ length table.now }
-    requires sizes { Sizes table.now n k }
-    requires i_bound { i < 5 }
-    ensures { result ≡ entry_right table.now i }
-{
-    let field = wrong_field(table, n, k, i);
-    field_right(table, n, k, i, field)
-}
-
-// The first contents entry, from 0, that is not the one that n and k fix; 5 where all are.
-fn wrong_entry(table: &[u8], n: u64, k: u64) -> u64
-    requires in_bounds { 29 ≤ length table.now }
-    requires sizes { Sizes table.now n k }
-    ensures { result ≡ wrong_entry table.now }
-{
-    let mut i = 0;
-    while i < 5 {
-        if !entry_right(table, n, k, i) {
-            return i;
+// Entries, their fields and bodies are tested against what n and k fix. They are counted from 0.
+impl Headed<'_> {
+    // n and k.
+    fn sizes(&self) -> Sizes
+        ensures states { result.states ≡ states_in self.now.file.now }
+        ensures labels { result.labels ≡ labels_in self.now.file.now }
+    {
+        Sizes {
+            states: bodies::byte(self.file, 0),
+            labels: bodies::byte(self.file, 1),
         }
-        i += 1;
     }
-    5
-}
 
-// The first of `count` bytes from a place on that is not below a limit, counted from there; `count` where all are.
-fn first_above(table: &[u8], from: u64, count: u64, limit: u64) -> u64
-    requires { from + count ≤ length table.now }
-    ensures { result ≡ first_above table.now from count limit }
-{
-    let mut j = 0;
-    while j < count {
-        let at = from + j;
-        if limit <= bodies::byte(table, at) {
-            return j;
+    // The two bytes from a place on, the low one first.
+    fn two_bytes(&self, at: u64) -> u64
+        requires { at + 1 < length self.now.file.now }
+        ensures { result ≡ two_bytes self.now.file.now at }
+    {
+        let at = at as usize;
+        u64::from(u16::from_le_bytes([self.file[at], self.file[at + 1]]))
+    }
+
+    // Is a field of contents entry i right?
+    fn field_right(&self, i: u64, field: Field) -> bool
+        requires { i < 5 }
+        ensures { result ≡ field_right self.now.file.now i field }
+    {
+        let at = 4 + 5 * i;
+        match field {
+            Field::Kind => bodies::byte(self.file, at) == i + 1,
+            Field::Offset => self.two_bytes(at + 1) == self.sizes().body_at(i),
+            Field::Length => self.two_bytes(at + 3) == self.sizes().body_length(i),
         }
-        j += 1;
     }
-    count
-}
 
-// The first byte of body i, counted from the body's start, that it may not hold; the body's length where it may hold all.
-fn wrong_byte(table: &[u8], n: u64, k: u64, i: u64) -> u64
-    requires sizes { Sizes table.now n k }
-    requires table_len { length table.now ≡ body_at n k 5 }
-    requires i_bound { i < 5 }
-    ensures { result ≡ wrong_byte table.now i }
-{
-    let limit = if i < 4 { n } else { 2 };
-    first_above(
-        table,
-        offsets::body_at(n, k, i),
-        offsets::body_length(n, k, i),
-        limit,
-    )
-}
-
-// The first body, from 0, that holds a byte that it may not; 5 where none does.
-fn wrong_body(table: &[u8], n: u64, k: u64) -> u64
-    requires sizes { Sizes table.now n k }
-    requires table_len { length table.now ≡ body_at n k 5 }
-    ensures { result ≡ wrong_body table.now }
-{
-    let mut i = 0;
-    while i < 5 {
-        if wrong_byte(table, n, k, i) < offsets::body_length(n, k, i) {
-            return i;
+    // The first wrong field of contents entry i.
+    fn wrong_field(&self, i: u64) -> Option<Field>
+        requires { i < 5 }
+        ensures { result ≡ field_found self.now.file.now i }
+    {
+        if !self.field_right(i, Field::Kind) {
+            return Some(Field::Kind);
         }
-        i += 1;
+        if !self.field_right(i, Field::Offset) {
+            return Some(Field::Offset);
+        }
+        if !self.field_right(i, Field::Length) {
+            return Some(Field::Length);
+        }
+        None
     }
-    5
+
+    // The first wrong contents entry, and the first wrong field of it.
+    fn wrong_entry(&self) -> Option<(u64, Field)>
+        ensures { result ≡ entry_found self.now.file.now }
+    {
+        for i in 0..5 {
+            if let Some(field) = self.wrong_field(i) {
+                return Some((i, field));
+            }
+        }
+        None
+    }
+
+    // The first byte of body i that it may not hold, counted from the body's start.
+    fn wrong_byte(&self, i: u64) -> Option<u64>
+        requires whole { length self.now.file.now ≡ body_at (states_in self.now.file.now) (labels_in self.now.file.now) 5 }
+        requires kind { i < 5 }
+        ensures { result ≡ byte_found self.now.file.now i }
+    {
+        let sizes = self.sizes();
+        let limit = if i < 4 { sizes.states } else { 2 };
+        let at = sizes.body_at(i) as usize;
+        let body = &self.file[at..at + sizes.body_length(i) as usize];
+        first_above(body, limit).map(|place| place as u64)
+    }
+
+    // The first body that holds a byte that it may not, and the first such byte of it.
+    fn wrong_body(&self) -> Option<(u64, u64)>
+        requires { length self.now.file.now ≡ body_at (states_in self.now.file.now) (labels_in self.now.file.now) 5 }
+        ensures { result ≡ body_found self.now.file.now }
+    {
+        for i in 0..5 {
+            if let Some(byte) = self.wrong_byte(i) {
+                return Some((i, byte));
+            }
+        }
+        None
+    }
 }
 
 // Is the file a table? The lowest refusal that applies is given, with the first place that it is given for.
@@ -231,20 +218,16 @@ pub fn read(table: &[u8]) -> Result<(u64, u64), Refusal>
     if !header_right(table) {
         return Err(Refusal::Header);
     }
-    let n = bodies::byte(table, 0);
-    let k = bodies::byte(table, 1);
-    let entry = wrong_entry(table, n, k);
-    if entry < 5 {
-        let field = wrong_field(table, n, k, entry);
+    let headed = Headed { file: table };
+    if let Some((entry, field)) = headed.wrong_entry() {
         return Err(Refusal::Contents(entry + 1, field));
     }
-    if table.len() as u64 != offsets::file_length(n, k) {
+    let sizes = headed.sizes();
+    if table.len() as u64 != sizes.file_length() {
         return Err(Refusal::Length);
     }
-    let body = wrong_body(table, n, k);
-    if body < 5 {
-        let byte = wrong_byte(table, n, k, body);
+    if let Some((body, byte)) = headed.wrong_body() {
         return Err(Refusal::Body(body + 1, byte));
     }
-    Ok((n, k))
+    Ok((sizes.states, sizes.labels))
 }

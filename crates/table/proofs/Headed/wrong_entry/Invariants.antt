@@ -1,0 +1,9 @@
+-- What has been searched is right. Assumes nothing.
+use mathlib.Core.Bool.{true}
+use mathlib.Core.Path.{◌≡◌}
+use Prim.Native.Nat.{ℕ, ◌<◌}
+use Rattle.table.specs.File.{entry_right}
+use Rattle.table.proofs.Headed.wrong_entry.Given as goal
+
+abbrev pub invariant-loop-i : goal.invariant-loop-i
+invariant-loop-i l = (j : ℕ) → j < l.i → entry_right l.self.file.now j ≡ true
