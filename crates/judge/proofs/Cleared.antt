@@ -1,5 +1,6 @@
 -- Lines 1 to 8 by themselves: where one applies it is the call's refusal, whatever the byte; where none does the call is clear.
 -- Assumes nothing.
+use Rattle.std.specs.Prelude.{Ok, Err}
 use mathlib.Core.Path.{◌≡◌, refl, sym, ap, ◌∙◌}
 use mathlib.Core.Bool.{Bool, true, false, not, cond}
 use mathlib.Core.List.{List, [], ◌∷◌}
@@ -12,36 +13,34 @@ use Rattle.table.specs.File.{is_short, header_right, contents_right, length_righ
 use Rattle.answers.specs.declared.Record.{Record}
 use Rattle.answers.specs.declared.Event.{Event}
 use Rattle.answers.specs.declared.Refusal.{Refusal}
-use Rattle.judge.specs.declared.Judged.{Judged}
-use Rattle.judge.specs.declared.Judged.TheVariants.{Fine, Refused}
-use Rattle.judge.specs.Judging.{judged_number, event_lines, judged_lines, newest_word}
+use Rattle.judge.specs.Judging.{Judged, fine, judged_number, event_lines, judged_lines, newest_word}
 use Rattle.judge.proofs.Following.{first_append, call_passes}
 use Rattle.judge.proofs.Passed.{Passed, call_passed}
 use Rattle.table.proofs.Sound.{taken_is_sound}
 use Rattle.judge.specs.Clear.{Clear, clear_lines}
 
 -- A refusal is one.
-pub not_fine : {w : Refusal} → Refused w ≡ Fine → ⊥
+pub not_fine : {w : Refusal} → Err w ≡ fine → ⊥
 not_fine e = let z : ◌≡◌ {A = ℕ} 0 1 = cc in omega (arith, z)
 
 -- What refuses stands, whatever comes after.
-first_stands : (ls : List (Line Judged)) (o : Judged) (w : Refusal) → first_of ls Fine ≡ Refused w → first_of ls o ≡ Refused w
+first_stands : (ls : List (Line Judged)) (o : Judged) (w : Refusal) → first_of ls fine ≡ Err w → first_of ls o ≡ Err w
 first_stands [] o w e = absurd (not_fine (sym e))
 first_stands (l ∷ ls) o w e = go l.applies (first_stands ls o w) e
   where
-    go : (b : Bool) → (first_of ls Fine ≡ Refused w → first_of ls o ≡ Refused w) → cond b l.gives (first_of ls Fine) ≡ Refused w → cond b l.gives (first_of ls o) ≡ Refused w
+    go : (b : Bool) → (first_of ls fine ≡ Err w → first_of ls o ≡ Err w) → cond b l.gives (first_of ls fine) ≡ Err w → cond b l.gives (first_of ls o) ≡ Err w
     go true later e = e
     go false later e = later e
 
 module _ (f : List ℕ) (r : Record) (work : List ℕ) (reports : ℕ) where
-  pub lent_refused : (w : Refusal) → first_of (clear_lines f r work reports) Fine ≡ Refused w → (e : Event) → first_of (judged_lines f r work reports e) Fine ≡ Refused w
+  pub lent_refused : (w : Refusal) → first_of (clear_lines f r work reports) fine ≡ Err w → (e : Event) → first_of (judged_lines f r work reports e) fine ≡ Err w
   lent_refused w h e =
       let rest : List (Line Judged) = event_lines (labels_in f) r (newest_word r work) e in
-      first_append (clear_lines f r work reports) rest Fine ∙ first_stands (clear_lines f r work reports) (first_of rest Fine) w h
+      first_append (clear_lines f r work reports) rest fine ∙ first_stands (clear_lines f r work reports) (first_of rest fine) w h
 
-  pub lent_clear : first_of (clear_lines f r work reports) Fine ≡ Fine → Clear f r work reports
+  pub lent_clear : first_of (clear_lines f r work reports) fine ≡ fine → Clear f r work reports
   lent_clear h =
-      let n = (taken_exactly judged_number Fine (clear_lines f r work reports) tt).0 (ap judged_number h) in
+      let n = (taken_exactly judged_number fine (clear_lines f r work reports) tt).0 (ap judged_number h) in
       let a : is_short f ≡ false = n 0 in
       let b : not (header_right f) ≡ false = n 1 in
       let c : not (contents_right f) ≡ false = n 2 in
@@ -51,9 +50,9 @@ module _ (f : List ℕ) (r : Record) (work : List ℕ) (reports : ℕ) where
 
 pub clear_judged :
     (f : List ℕ) (r : Record) (work : List ℕ) (reports : ℕ) → Clear f r work reports → (e : Event) →
-    first_of (event_lines (labels_in f) r (newest_word r work) e) Fine ≡ first_of (judged_lines f r work reports e) Fine
+    first_of (event_lines (labels_in f) r (newest_word r work) e) fine ≡ first_of (judged_lines f r work reports e) fine
 clear_judged f r work reports c e =
-    call_passes f r work reports e (states_in f) (labels_in f) c.read Fine (first_of (event_lines (labels_in f) r (newest_word r work) e) Fine) (sym c.call) refl refl
+    call_passes f r work reports e (states_in f) (labels_in f) c.read fine (first_of (event_lines (labels_in f) r (newest_word r work) e) fine) (sym c.call) refl refl
 
 pub clear_passed : (f : List ℕ) (r : Record) (work : List ℕ) (reports : ℕ) → Clear f r work reports → Passed f r work reports
 clear_passed f r work reports c =
@@ -64,9 +63,9 @@ clear_passed f r work reports c =
 
 -- An event that no line before the last refuses is clear.
 pub judged_clear :
-    (f : List ℕ) (r : Record) (work : List ℕ) (reports : ℕ) (e : Event) → first_of (judged_lines f r work reports e) Fine ≡ Fine → Clear f r work reports
-judged_clear f r work reports e h = lent_clear f r work reports (go (first_of (clear_lines f r work reports) Fine) refl)
+    (f : List ℕ) (r : Record) (work : List ℕ) (reports : ℕ) (e : Event) → first_of (judged_lines f r work reports e) fine ≡ fine → Clear f r work reports
+judged_clear f r work reports e h = lent_clear f r work reports (go (first_of (clear_lines f r work reports) fine) refl)
   where
-    go : (j : Judged) → first_of (clear_lines f r work reports) Fine ≡ j → j ≡ Fine
-    go Fine k = refl
-    go (Refused w) k = absurd (not_fine (sym (lent_refused f r work reports w k e) ∙ h))
+    go : (j : Judged) → first_of (clear_lines f r work reports) fine ≡ j → j ≡ fine
+    go (Ok done) k = refl
+    go (Err w) k = absurd (not_fine (sym (lent_refused f r work reports w k e) ∙ h))

@@ -1,4 +1,5 @@
 -- What the tests on sizes, record and work memory say, and how the call's lines come out. Assumes nothing.
+use Rattle.std.specs.Prelude.{Option, None, Some, Err}
 use mathlib.Core.Bool.{Bool, true, false, not, cond, ◌&&◌, ◌||◌}
 use mathlib.Core.List.{List}
 use mathlib.Core.Path.{◌≡◌, sym, ◌∙◌}
@@ -10,14 +11,10 @@ use Rattle.meaning.specs.Refusals.{first_of}
 use Rattle.meaning.proofs.Tests.{both_true}
 use Rattle.table.specs.File.{between}
 use Rattle.places.specs.Places.{work_length}
-use Rattle.order.specs.declared.Place.{Place}
-use Rattle.order.specs.declared.Place.TheVariants.{Fine, At}
 use Rattle.order.specs.Order.{first_fault}
 use Rattle.answers.specs.declared.Record.{Record}
 use Rattle.answers.specs.declared.Refusal.TheVariants as why
-use Rattle.judge.specs.Judging.{call_lines, sizes_right, record_right, fault_of}
-use Rattle.judge.specs.declared.Judged.{Judged}
-use Rattle.judge.specs.declared.Judged.TheVariants as judged
+use Rattle.judge.specs.Judging.{Judged, fine, call_lines, sizes_right, record_right, fault_of}
 
 -- The sizes are in range, and work memory has the length that they fix.
 pub record Sized (rows allowed size : ℕ) : Type 0 where
@@ -82,7 +79,7 @@ used_some b used alive e h = rw e h
 
 -- Where the record by itself is in order, the words decide.
 pub fault_words :
-    (r : Record) (n k : ℕ) (work : List ℕ) (used : ℕ) (p : Place) → record_right r ≡ true → used ≡ cond r.finished 0 (r.alive + 1) →
+    (r : Record) (n k : ℕ) (work : List ℕ) (used : ℕ) (p : Option ℕ) → record_right r ≡ true → used ≡ cond r.finished 0 (r.alive + 1) →
     p
     ≡ first_fault
     record {
@@ -100,21 +97,21 @@ fault_words r n k work used p e u h = rw e (rw u at h)
 
 module _ (n k : ℕ) (r : Record) (work : List ℕ) (reports : ℕ) where
   abbrev call : Judged
-  call = first_of (call_lines n k r work reports) judged.Fine
+  call = first_of (call_lines n k r work reports) fine
 
-  pub sizes_stand : sizes_right r.rows r.allowed (length work) ≡ false → judged.Refused why.Sizes ≡ call
+  pub sizes_stand : sizes_right r.rows r.allowed (length work) ≡ false → Err why.Sizes ≡ call
   sizes_stand e = rw e
 
   module _ (e : sizes_right r.rows r.allowed (length work) ≡ true) where
-    pub reports_stand : reports < r.rows + 1 → judged.Refused why.Sizes ≡ call
+    pub reports_stand : reports < r.rows + 1 → Err why.Sizes ≡ call
     reports_stand l = rw (e, lt-ltb reports (r.rows + 1) l)
 
     module _ (l : r.rows + 1 ≤ reports) where
-      pub order_stands : (at : ℕ) → fault_of r n k work ≡ At at → judged.Refused (why.Order at) ≡ call
+      pub order_stands : (at : ℕ) → fault_of r n k work ≡ Some at → Err (why.Order at) ≡ call
       order_stands at h = rw (e, le-ltb reports (r.rows + 1) l, h)
 
-      pub finished_stands : fault_of r n k work ≡ Fine → r.finished ≡ true → judged.Refused why.Finished ≡ call
+      pub finished_stands : fault_of r n k work ≡ None → r.finished ≡ true → Err why.Finished ≡ call
       finished_stands h g = rw (e, le-ltb reports (r.rows + 1) l, h, g)
 
-      pub none_stands : fault_of r n k work ≡ Fine → r.finished ≡ false → judged.Fine ≡ call
+      pub none_stands : fault_of r n k work ≡ None → r.finished ≡ false → fine ≡ call
       none_stands h g = rw (e, le-ltb reports (r.rows + 1) l, h, g)

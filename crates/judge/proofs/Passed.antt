@@ -1,4 +1,5 @@
 -- What a call has to which no line applies: what each line asks, as a fact. Assumes nothing.
+use Rattle.std.specs.Prelude.{Option, None, Some, Ok}
 use mathlib.Core.Bool.{Bool, true, false, not, cond, ◌||◌, true≢false}
 use mathlib.Core.List.{List}
 use mathlib.Core.Path.{◌≡◌, refl, ap}
@@ -10,17 +11,13 @@ use borrow.Author.Tests.{ltb-false, leb-false, eqb-false, not-false}
 use Rattle.meaning.specs.Refusals.{first_of, applies_at}
 use Rattle.bodies.specs.Sound.{Sound, states_in, labels_in}
 use Rattle.table.specs.File.{is_short, header_right, contents_right, length_right, bodies_right, reading_of}
-use Rattle.table.specs.declared.Reading.TheVariants.{Taken}
 use Rattle.table.proofs.Sound.{taken_is_sound}
 use Rattle.places.specs.Places.{work_length}
-use Rattle.order.specs.declared.Place.{Place}
-use Rattle.order.specs.declared.Place.TheVariants.{Fine, At}
 use Rattle.order.specs.Order.{first_fault}
 use Rattle.answers.specs.declared.Record.{Record}
 use Rattle.answers.specs.declared.Event.{Event}
 use Rattle.answers.specs.declared.Event.TheVariants.{Open, Point, Close, CloseOf, End, Unknown}
-use Rattle.judge.specs.Judging.{judged_number, call_lines, judged_lines, start_lines, sizes_right, record_right, shape_of, fault_of, is_fault}
-use Rattle.judge.specs.declared.Judged.TheVariants as judged
+use Rattle.judge.specs.Judging.{fine, judged_number, call_lines, judged_lines, start_lines, sizes_right, record_right, shape_of, fault_of, is_fault}
 use Rattle.judge.proofs.Laws.{sized, within}
 use Rattle.judge.proofs.Numbers.{judged_none, call_none, start_none}
 
@@ -33,7 +30,7 @@ pub record Called (n k : ℕ) (r : Record) (work : List ℕ) (reports : ℕ) : T
   pub room : r.alive ≤ r.rows
   pub deep : r.depth ≤ r.allowed
   pub numbered : r.positions ≤ 2147483647
-  pub in_order : first_fault (shape_of r n k) work ≡ Fine
+  pub in_order : first_fault (shape_of r n k) work ≡ None
   pub going_on : r.finished ≡ false
 
 -- What a call that passed 1 to 8 has.
@@ -62,19 +59,19 @@ sound_file :
     (f : List ℕ) → is_short f ≡ false → not (header_right f) ≡ false → not (contents_right f) ≡ false → not (length_right f) ≡ false →
     not (bodies_right f) ≡ false → Sound f
 sound_file f a b c d e =
-    let taken : reading_of f ≡ Taken (states_in f) (labels_in f) = rw (a, b, c, d, e) in
+    let taken : reading_of f ≡ Ok (states_in f, labels_in f) = rw (a, b, c, d, e) in
     (taken_is_sound f (states_in f) (labels_in f) taken).0
 
 pub neither : (a b : Bool) → (a || b) ≡ false → (a ≡ false) × (b ≡ false)
 neither true b e = absurd (true≢false e)
 neither false b e = (refl, e)
 
-no_fault : (p : Place) → is_fault p ≡ false → p ≡ Fine
-no_fault Fine e = refl
-no_fault (At place) e = absurd (true≢false e)
+no_fault : (p : Option ℕ) → is_fault p ≡ false → p ≡ None
+no_fault None e = refl
+no_fault (Some place) e = absurd (true≢false e)
 
 -- No fault is found: the record by itself is in order, and so are the words.
-both_right : (b : Bool) (p : Place) (at : ℕ) → cond b p (At at) ≡ Fine → (b ≡ true) × (p ≡ Fine)
+both_right : (b : Bool) (p : Option ℕ) (at : ℕ) → cond b p (Some at) ≡ None → (b ≡ true) × (p ≡ None)
 both_right true p at e = (refl, e)
 both_right false p at e = absurd (true≢false (ap is_fault e))
 
@@ -101,17 +98,17 @@ module _ (n k : ℕ) (r : Record) (work : List ℕ) (reports : ℕ) where
         going_on = going;
       }
 
-  pub call_passed : first_of (call_lines n k r work reports) judged.Fine ≡ judged.Fine → Called n k r work reports
+  pub call_passed : first_of (call_lines n k r work reports) fine ≡ fine → Called n k r work reports
   call_passed h =
       let none = (call_none n k r work reports).0 (ap judged_number h) in
       none_called (none 0) (none 1) (none 2)
 
 module _ (f work : List ℕ) (r : Record) (reports : ℕ) (e : Event) where
   -- No line applies.
-  none : first_of (judged_lines f r work reports e) judged.Fine ≡ judged.Fine → (i : ℕ) → applies_at (judged_lines f r work reports e) i ≡ false
+  none : first_of (judged_lines f r work reports e) fine ≡ fine → (i : ℕ) → applies_at (judged_lines f r work reports e) i ≡ false
   none h = (judged_none f r work reports e).0 (ap judged_number h)
 
-  pub passed : first_of (judged_lines f r work reports e) judged.Fine ≡ judged.Fine → Passed f r work reports
+  pub passed : first_of (judged_lines f r work reports e) fine ≡ fine → Passed f r work reports
   passed h =
       let n = none h in
       record {
@@ -120,7 +117,7 @@ module _ (f work : List ℕ) (r : Record) (reports : ℕ) (e : Event) where
       }
 
 pub event_passed :
-    (f work : List ℕ) (r : Record) (reports : ℕ) (e : Event) → first_of (judged_lines f r work reports e) judged.Fine ≡ judged.Fine →
+    (f work : List ℕ) (r : Record) (reports : ℕ) (e : Event) → first_of (judged_lines f r work reports e) fine ≡ fine →
     EventPassed (labels_in f) r e
 event_passed f work r reports (Open a) h =
     let n = none f work r reports (Open a) h in
@@ -140,7 +137,7 @@ event_passed f work r reports End h =
 event_passed f work r reports Unknown h = absurd (true≢false (none f work r reports Unknown h 8))
 
 pub start_passed :
-    (f : List ℕ) (rows allowed size : ℕ) → first_of (start_lines f rows allowed size) judged.Fine ≡ judged.Fine →
+    (f : List ℕ) (rows allowed size : ℕ) → first_of (start_lines f rows allowed size) fine ≡ fine →
     StartPassed f rows allowed size
 start_passed f rows allowed size h =
     let n = (start_none f rows allowed size).0 (ap judged_number h) in

@@ -1,14 +1,12 @@
 -- All refusals but that for want of rows, line by line in the order of checking: each line is a test on what the call was
 -- given (01, "Refusal numbers", and 02 from K2 on). Definitions only.
-use Rattle.std.specs.Prelude.{Bool, true, false, not, cond, ◌&&◌, ◌||◌, List, [], ◌∷◌, ◌++◌, ℕ, suc, ◌+◌, eqb, leb, ltb, length, get_or}
+use Rattle.std.specs.Prelude.{Result, Ok, Err, Option, None, Some, Bool, true, false, not, cond, ◌&&◌, ◌||◌, List, [], ◌∷◌, ◌++◌, ℕ, suc, ◌+◌, eqb, leb, ltb, length, get_or}
 use Rattle.meaning.specs.Refusals.{Line}
 use Rattle.bodies.specs.Sound.{states_in, labels_in}
 use Rattle.table.specs.File.{between, is_short, header_right, contents_right, length_right, bodies_right, by_contents, by_bodies}
 use Rattle.table.specs.declared.Refusal.TheVariants as file
 use Rattle.places.specs.Places.{work_length, labels_part, label_at}
 use Rattle.order.specs.declared.Shape.{Shape}
-use Rattle.order.specs.declared.Place.{Place}
-use Rattle.order.specs.declared.Place.TheVariants.{Fine, At}
 use Rattle.order.specs.Order.{first_fault}
 use Rattle.answers.specs.declared.Record.{Record}
 use Rattle.answers.specs.declared.Event.{Event}
@@ -16,21 +14,26 @@ use Rattle.answers.specs.declared.Event.TheVariants.{Open, Point, Close, CloseOf
 use Rattle.answers.specs.declared.Refusal.{Refusal}
 use Rattle.answers.specs.declared.Refusal.TheVariants as why
 use Rattle.answers.specs.Answers.{refusal_number, refusal_rank}
-use Rattle.judge.specs.declared.Judged.{Judged}
-use Rattle.judge.specs.declared.Judged.TheVariants as judged
+
+-- A judgement: a refusal, or none.
+abbrev pub Judged : Type 0
+Judged = Result (Unit {0}) Refusal
+
+abbrev pub fine : Judged
+fine = Ok tt
 
 -- A line that refuses.
 abbrev pub refuses : Bool → Refusal → Line Judged
-refuses applies why = record { applies = applies; gives = judged.Refused why }
+refuses applies why = record { applies = applies; gives = Err why }
 
 -- The number and the rank of what a judgement gives: 0 where nothing is refused.
 abbrev pub judged_number : Judged → ℕ
-judged_number judged.Fine = 0
-judged_number (judged.Refused why) = refusal_number why
+judged_number (Ok done) = 0
+judged_number (Err why) = refusal_number why
 
 abbrev pub judged_rank : Judged → ℕ
-judged_rank judged.Fine = 0
-judged_rank (judged.Refused why) = refusal_rank why
+judged_rank (Ok done) = 0
+judged_rank (Err why) = refusal_rank why
 
 -- 1 to 5: the table file.
 abbrev pub table_lines : List ℕ → List (Line Judged)
@@ -68,16 +71,16 @@ shape_of r n k =
     }
 
 -- The first word that breaks the order; the length of work memory where the record by itself breaks it.
-abbrev pub fault_of : Record → ℕ → ℕ → List ℕ → Place
-fault_of r n k work = cond (record_right r) (first_fault (shape_of r n k) work) (At (length work))
+abbrev pub fault_of : Record → ℕ → ℕ → List ℕ → Option ℕ
+fault_of r n k work = cond (record_right r) (first_fault (shape_of r n k) work) (Some (length work))
 
-abbrev pub is_fault : Place → Bool
-is_fault Fine = false
-is_fault (At place) = true
+abbrev pub is_fault : Option ℕ → Bool
+is_fault None = false
+is_fault (Some place) = true
 
-abbrev pub fault_at : Place → ℕ
-fault_at Fine = 0
-fault_at (At place) = place
+abbrev pub fault_at : Option ℕ → ℕ
+fault_at None = 0
+fault_at (Some place) = place
 
 -- 6 to 8 of an event.
 abbrev pub call_lines : ℕ → ℕ → Record → List ℕ → ℕ → List (Line Judged)

@@ -7,32 +7,20 @@
 ghost use Rattle.std.specs.Prelude.{◌≡◌, ℕ, ◌+◌, ◌≤◌, length};
 ghost use Rattle.meaning.specs.Refusals.{first_of};
 ghost use Rattle.places.specs.Places.{work_length};
-ghost use Rattle.judge.specs.Judging.{call_lines, event_lines, judged_lines, start_lines};
+ghost use Rattle.judge.specs.Judging.{fine, call_lines, event_lines, judged_lines, start_lines};
 ghost use Rattle.judge.specs.Clear.{clear_lines};
 ghost use Rattle.judge.specs.Judging.{sizes_right, record_right, fault_of, newest_word};
 
 use answers::{Event, Record, Refusal};
-use order::{Place, Shape};
-use table::Reading;
-
-// A refusal, or none.
-#[derive(Clone, Copy)]
-pub enum Judged {
-    Fine,
-    Refused(Refusal),
-}
+use order::Shape;
 
 // Line 6 of a start, passed: rows and depth allowed in range, and work memory of the length that they fix.
 fn sizes_right(rows: u64, allowed: u64, size: usize) -> bool
     ensures { result ≡ sizes_right rows allowed size }
 {
-    if rows < 1 || 64 < rows {
-        return false;
-    }
-    if allowed < 1 || 40 < allowed {
-        return false;
-    }
-    size == places::work_length(rows as usize, allowed as usize)
+    (1..=64).contains(&rows)
+        && (1..=40).contains(&allowed)
+        && size == places::work_length(rows as usize, allowed as usize)
 }
 
 // Is the record by itself in order?
@@ -46,12 +34,12 @@ fn record_right(r: Record) -> bool
 }
 
 // The first word of work memory that is out of order; its length where the record by itself is.
-fn fault(r: Record, n: u64, k: u64, work: &[u64]) -> Place
+fn fault(r: Record, n: u64, k: u64, work: &[u64]) -> Option<usize>
     requires { (r.rows ≤ 64) × (r.allowed ≤ 40) × (length work.now ≡ work_length r.rows r.allowed) }
     ensures { result ≡ fault_of r n k work.now }
 {
     if !record_right(r) {
-        return Place::At(work.len());
+        return Some(work.len());
     }
     let used = if r.finished { 0 } else { r.alive as usize + 1 };
     order::first_fault(
@@ -59,7 +47,7 @@ fn fault(r: Record, n: u64, k: u64, work: &[u64]) -> Place
         Shape {
             rows: r.rows as usize + 1,
             allowed: r.allowed as usize,
-            used: used,
+            used,
             depth: r.depth as usize,
             states: n,
             positions: r.positions,
@@ -69,141 +57,130 @@ fn fault(r: Record, n: u64, k: u64, work: &[u64]) -> Place
 }
 
 // 6 to 8, for a table of n states and k labels.
-fn judge_call(n: u64, k: u64, r: Record, work: &[u64], reports: usize) -> Judged
-    ensures { result ≡ first_of (call_lines n k r work.now reports) Judged.Fine }
+fn judge_call(n: u64, k: u64, r: Record, work: &[u64], reports: usize) -> Result<(), Refusal>
+    ensures { result ≡ first_of (call_lines n k r work.now reports) fine }
 {
     if !sizes_right(r.rows, r.allowed, work.len()) {
-        return Judged::Refused(Refusal::Sizes);
+        return Err(Refusal::Sizes);
     }
     if (reports as u64) < r.rows + 1 {
-        return Judged::Refused(Refusal::Sizes);
+        return Err(Refusal::Sizes);
     }
-    let place = fault(r, n, k, work);
-    if let Place::At(at) = place {
-        return Judged::Refused(Refusal::Order(at as u64));
+    if let Some(at) = fault(r, n, k, work) {
+        return Err(Refusal::Order(at as u64));
     }
     if r.finished {
-        return Judged::Refused(Refusal::Finished);
+        return Err(Refusal::Finished);
     }
-    Judged::Fine
+    Ok(())
 }
 
 // 10, 12 and 14, of an open.
-fn judge_open(k: u64, r: Record, a: u64) -> Judged
-    ensures { (x : ℕ) → result ≡ first_of (event_lines k r x (Event.Open a)) Judged.Fine }
+fn judge_open(k: u64, r: Record, a: u64) -> Result<(), Refusal>
+    ensures { (x : ℕ) → result ≡ first_of (event_lines k r x (Event.Open a)) fine }
 {
     if k <= a {
-        return Judged::Refused(Refusal::Label);
+        return Err(Refusal::Label);
     }
     if r.allowed <= r.depth {
-        return Judged::Refused(Refusal::TooDeep);
+        return Err(Refusal::TooDeep);
     }
     if 2147483647 <= r.positions {
-        return Judged::Refused(Refusal::Positions);
+        return Err(Refusal::Positions);
     }
-    Judged::Fine
+    Ok(())
 }
 
 // 10 and 14, of a point.
-fn judge_point(k: u64, r: Record, a: u64) -> Judged
-    ensures { (x : ℕ) → result ≡ first_of (event_lines k r x (Event.Point a)) Judged.Fine }
+fn judge_point(k: u64, r: Record, a: u64) -> Result<(), Refusal>
+    ensures { (x : ℕ) → result ≡ first_of (event_lines k r x (Event.Point a)) fine }
 {
     if k <= a {
-        return Judged::Refused(Refusal::Label);
+        return Err(Refusal::Label);
     }
     if 2147483647 <= r.positions {
-        return Judged::Refused(Refusal::Positions);
+        return Err(Refusal::Positions);
     }
-    Judged::Fine
+    Ok(())
 }
 
 // 10, 11 and 16, of a close that names a label.
-fn judge_close_of(k: u64, r: Record, work: &[u64], a: u64) -> Judged
+fn judge_close_of(k: u64, r: Record, work: &[u64], a: u64) -> Result<(), Refusal>
     requires { (r.rows ≤ 64) × (r.allowed ≤ 40) × (r.depth ≤ r.allowed) × (length work.now ≡ work_length r.rows r.allowed) }
-    ensures { result ≡ first_of (event_lines k r (newest_word r work.now) (Event.CloseOf a)) Judged.Fine }
+    ensures { result ≡ first_of (event_lines k r (newest_word r work.now) (Event.CloseOf a)) fine }
 {
     if k <= a {
-        return Judged::Refused(Refusal::Label);
+        return Err(Refusal::Label);
     }
     if r.depth == 0 {
-        return Judged::Refused(Refusal::NothingOpen);
+        return Err(Refusal::NothingOpen);
     }
     let from = places::rows_length(r.rows as usize, r.allowed as usize);
     let word = work[from + places::label_at(r.depth as usize)];
     if word != a + 1 {
-        return Judged::Refused(Refusal::ClosingLabel);
+        return Err(Refusal::ClosingLabel);
     }
-    Judged::Fine
+    Ok(())
 }
 
 // 9 to 14 and 16, for a table of k labels.
-pub fn judge_event(k: u64, r: Record, work: &[u64], event: Event) -> Judged
+pub fn judge_event(k: u64, r: Record, work: &[u64], event: Event) -> Result<(), Refusal>
     requires { (r.rows ≤ 64) × (r.allowed ≤ 40) × (r.depth ≤ r.allowed) × (length work.now ≡ work_length r.rows r.allowed) }
-    ensures { result ≡ first_of (event_lines k r (newest_word r work.now) event) Judged.Fine }
+    ensures { result ≡ first_of (event_lines k r (newest_word r work.now) event) fine }
 {
     match event {
         Event::Open(a) => judge_open(k, r, a),
         Event::Point(a) => judge_point(k, r, a),
         Event::Close => {
             if r.depth == 0 {
-                Judged::Refused(Refusal::NothingOpen)
+                Err(Refusal::NothingOpen)
             } else {
-                Judged::Fine
+                Ok(())
             }
         }
         Event::CloseOf(a) => judge_close_of(k, r, work, a),
         Event::End => {
             if 0 < r.depth {
-                Judged::Refused(Refusal::LevelOpen)
+                Err(Refusal::LevelOpen)
             } else {
-                Judged::Fine
+                Ok(())
             }
         }
-        Event::Unknown => Judged::Refused(Refusal::Unknown),
+        Event::Unknown => Err(Refusal::Unknown),
     }
 }
 
 // All of an event's but the last; `reports` is the length of the reports' slice.
-pub fn judge(table: &[u8], r: Record, work: &[u64], reports: usize, event: Event) -> Judged
-    ensures { result ≡ first_of (judged_lines table.now r work.now reports event) Judged.Fine }
+pub fn judge(
+    table: &[u8],
+    r: Record,
+    work: &[u64],
+    reports: usize,
+    event: Event,
+) -> Result<(), Refusal>
+    ensures { result ≡ first_of (judged_lines table.now r work.now reports event) fine }
 {
-    let reading = table::read(table);
-    match reading {
-        Reading::Refused(why) => Judged::Refused(Refusal::Table(why)),
-        Reading::Taken(n, k) => {
-            let judged = judge_call(n, k, r, work, reports);
-            match judged {
-                Judged::Refused(_) => judged,
-                Judged::Fine => judge_event(k, r, work, event),
-            }
-        }
-    }
+    let (n, k) = table::read(table)?;
+    judge_call(n, k, r, work, reports)?;
+    judge_event(k, r, work, event)
 }
 
 // 1 to 6, of a start; `size` is the length of work memory.
-pub fn judge_start(table: &[u8], rows: u64, allowed: u64, size: usize) -> Judged
-    ensures { result ≡ first_of (start_lines table.now rows allowed size) Judged.Fine }
+pub fn judge_start(table: &[u8], rows: u64, allowed: u64, size: usize) -> Result<(), Refusal>
+    ensures { result ≡ first_of (start_lines table.now rows allowed size) fine }
 {
-    let reading = table::read(table);
-    match reading {
-        Reading::Refused(why) => Judged::Refused(Refusal::Table(why)),
-        Reading::Taken(_, _) => {
-            if sizes_right(rows, allowed, size) {
-                Judged::Fine
-            } else {
-                Judged::Refused(Refusal::Sizes)
-            }
-        }
+    table::read(table)?;
+    if sizes_right(rows, allowed, size) {
+        Ok(())
+    } else {
+        Err(Refusal::Sizes)
     }
 }
 
 // 1 to 8 of an event; `reports` is the length of the reports' slice.
-pub fn judge_lent(table: &[u8], r: Record, work: &[u64], reports: usize) -> Judged
-    ensures { result ≡ first_of (clear_lines table.now r work.now reports) Judged.Fine }
+pub fn judge_lent(table: &[u8], r: Record, work: &[u64], reports: usize) -> Result<(), Refusal>
+    ensures { result ≡ first_of (clear_lines table.now r work.now reports) fine }
 {
-    let reading = table::read(table);
-    match reading {
-        Reading::Refused(why) => Judged::Refused(Refusal::Table(why)),
-        Reading::Taken(n, k) => judge_call(n, k, r, work, reports),
-    }
+    let (n, k) = table::read(table)?;
+    judge_call(n, k, r, work, reports)
 }
