@@ -3,7 +3,7 @@ use mathlib.Core.Path.{sym, subst}
 use Prim.Native.Nat.{◌+◌}
 use native.Mathlib.Omega.{arith}
 use lib.ListN.{length}
-use Rattle.meaning.specs.Table.{table_of}
+use Rattle.bodies.specs.Automaton.{automaton}
 use Rattle.places.specs.Places.{row_of}
 use Rattle.places.specs.Memory.{Held, row_in}
 use Rattle.reports.specs.Reports.{left_over}
@@ -12,30 +12,12 @@ use Rattle.stepping.specs.Stepping.{new_of}
 use Rattle.stepping.proofs.Crowded.{one_left, added_row, added_none, First, first_of, new_words, new_as}
 use Rattle.stepping.proofs.add_position.Goals as goal
 
-pub bounds-work-state_at : goal.bounds-work-state_at
-bounds-work-state_at c =
-    let new : Held = new_of (table_of c.args.table.now) c.args.position (row_in c.args.d (row_of c.args.w 0 c.args.work.now)) in
-    let first : First (table_of c.args.table.now) c.args.w c.args.d c.args.work.now = first_of (table_of c.args.table.now) c.args.w c.args.d (c.args.left + 1 + length (left_over (new))) c.args.work.now c.requires.row_in (omega arith) c.requires.w_in_bounds in
-    rw c.state_at.ensures (first).place
-
-pub mark-s-requires : goal.mark-s-requires
-mark-s-requires c =
-    let new : Held = new_of (table_of c.args.table.now) c.args.position (row_in c.args.d (row_of c.args.w 0 c.args.work.now)) in
-    let first : First (table_of c.args.table.now) c.args.w c.args.d c.args.work.now = first_of (table_of c.args.table.now) c.args.w c.args.d (c.args.left + 1 + length (left_over (new))) c.args.work.now c.requires.row_in (omega arith) c.requires.w_in_bounds in
-    record { sound = c.requires.sound; q_bound = rw c.state_at.ensures (first).state }
-
-pub slice_bounds-report_state-end-2 : goal.slice_bounds-report_state-end-2
-slice_bounds-report_state-end-2 c =
-    let new : Held = new_of (table_of c.args.table.now) c.args.position (row_in c.args.d (row_of c.args.w 0 c.args.work.now)) in
-    let first : First (table_of c.args.table.now) c.args.w c.args.d c.args.work.now = first_of (table_of c.args.table.now) c.args.w c.args.d (c.args.left + 1 + length (left_over (new))) c.args.work.now c.requires.row_in (omega arith) c.requires.w_in_bounds in
-    sym (first).size
-
 pub add_row-requires-clause-r_nonzero : goal.add_row-requires-clause-r_nonzero
 add_row-requires-clause-r_nonzero c =
     let a = c.args in
-    let new : Held = new_of (table_of a.table.now) a.position (row_in a.d (row_of a.w 0 a.work.now)) in
-    let first : First (table_of a.table.now) a.w a.d a.work.now = first_of (table_of a.table.now) a.w a.d (a.left + 1 + length (left_over new)) a.work.now c.requires.row_in (omega arith) c.requires.w_in_bounds in
-    let is = new_as (table_of a.table.now) a.w a.d a.work.now first _ _ c.mark-s.ensures c.state_at.ensures a.position in
+    let new : Held = new_of (automaton a.table.now) a.position (row_in a.d (row_of a.w 0 a.work.now)) in
+    let first : First (automaton a.table.now) a.w a.d a.work.now = first_of (automaton a.table.now) a.w a.d (a.left + 1 + length (left_over new)) a.work.now c.requires.row_in (omega arith) c.requires.w_in_bounds in
+    let is = new_as (automaton a.table.now) a.w a.d a.work.now first _ _ c.mark-s.ensures c.state_at.ensures a.position in
     let told : Put new a.count a.reports.now c.report_state-after.result c.report_state-after.new.reports =
     subst (λ (h : Held). Put h a.count a.reports.now c.report_state-after.result c.report_state-after.new.reports) is (c.report_state-after.ensures.value, c.report_state-after.ensures.reports_after) in
     let one = one_left new a.count _ told.0 c.if-after-count.true in
@@ -45,21 +27,21 @@ add_row-requires-clause-r_nonzero c =
 pub returns-then-after-count : goal.returns-then-after-count
 returns-then-after-count c =
     let a = c.args in
-    let new : Held = new_of (table_of a.table.now) a.position (row_in a.d (row_of a.w 0 a.work.now)) in
-    let first : First (table_of a.table.now) a.w a.d a.work.now = first_of (table_of a.table.now) a.w a.d (a.left + 1 + length (left_over new)) a.work.now c.requires.row_in (omega arith) c.requires.w_in_bounds in
-    let is = new_as (table_of a.table.now) a.w a.d a.work.now first _ _ c.mark-s.ensures c.state_at.ensures a.position in
+    let new : Held = new_of (automaton a.table.now) a.position (row_in a.d (row_of a.w 0 a.work.now)) in
+    let first : First (automaton a.table.now) a.w a.d a.work.now = first_of (automaton a.table.now) a.w a.d (a.left + 1 + length (left_over new)) a.work.now c.requires.row_in (omega arith) c.requires.w_in_bounds in
+    let is = new_as (automaton a.table.now) a.w a.d a.work.now first _ _ c.mark-s.ensures c.state_at.ensures a.position in
     let told : Put new a.count a.reports.now c.report_state-after.result c.report_state-after.new.reports =
     subst (λ (h : Held). Put h a.count a.reports.now c.report_state-after.result c.report_state-after.new.reports) is (c.report_state-after.ensures.value, c.report_state-after.ensures.reports_after) in
-    let long = new_words (table_of a.table.now) a.w a.d a.work.now first a.position in
+    let long = new_words (automaton a.table.now) a.w a.d a.work.now first a.position in
     let added = added_row new a.w a.left a.count a.work.now a.reports.now _ _ told _ c.if-after-count.true long c.add_row.ensures in
     record { value = added.0; work_after = added.1.0; reports_after = added.1.1 }
 
 pub returns-else-after-count : goal.returns-else-after-count
 returns-else-after-count c =
     let a = c.args in
-    let new : Held = new_of (table_of a.table.now) a.position (row_in a.d (row_of a.w 0 a.work.now)) in
-    let first : First (table_of a.table.now) a.w a.d a.work.now = first_of (table_of a.table.now) a.w a.d (a.left + 1 + length (left_over new)) a.work.now c.requires.row_in (omega arith) c.requires.w_in_bounds in
-    let is = new_as (table_of a.table.now) a.w a.d a.work.now first _ _ c.mark-s.ensures c.state_at.ensures a.position in
+    let new : Held = new_of (automaton a.table.now) a.position (row_in a.d (row_of a.w 0 a.work.now)) in
+    let first : First (automaton a.table.now) a.w a.d a.work.now = first_of (automaton a.table.now) a.w a.d (a.left + 1 + length (left_over new)) a.work.now c.requires.row_in (omega arith) c.requires.w_in_bounds in
+    let is = new_as (automaton a.table.now) a.w a.d a.work.now first _ _ c.mark-s.ensures c.state_at.ensures a.position in
     let told : Put new a.count a.reports.now c.report_state-after.result c.report_state-after.new.reports =
     subst (λ (h : Held). Put h a.count a.reports.now c.report_state-after.result c.report_state-after.new.reports) is (c.report_state-after.ensures.value, c.report_state-after.ensures.reports_after) in
     let added = added_none new a.w a.left a.count a.work.now a.reports.now _ _ told c.if-after-count.false in

@@ -11,8 +11,7 @@ use Rattle.stepping.proofs.close_rows.Goals as goal
 
 pub returns-then-count-eq0 : goal.returns-then-count-eq0
 returns-then-count-eq0 c =
-    let s = c in
-    let a = s.args in
+    let a = c.args in
     let hs = helds_in a.w a.d a.n a.words.now in
-    let none : length (reports_of hs) ≡ 0 = omega (arith, s.requires.n_bound) in
-    rw (none_reported hs none) record { value = sym (helds_length a.w a.d a.n a.words.now); words_after = rows_fill 64 a.w a.d a.n a.words.now s.requires.rows_in }
+    let none : length (reports_of hs) ≡ 0 = omega (arith, c.requires.n_bound) in
+    rw (none_reported hs none) record { value = sym (helds_length a.w a.d a.n a.words.now); words_after = rows_fill 64 a.w a.d a.n a.words.now c.requires.rows_in }
