@@ -1,5 +1,6 @@
 -- A refusal of each rank is given exactly when its line applies and none before it does, and the call is taken exactly when
 -- none applies; a refused call keeps what it was lent. Assumes nothing.
+use Rattle.std.specs.Prelude.{Err}
 use mathlib.Core.Bool.{Bool, true, false, cond}
 use mathlib.Core.List.{List}
 use mathlib.Core.Logic.{◌↔◌}
@@ -19,9 +20,7 @@ use Rattle.answers.specs.declared.Refusal.TheVariants as why
 use Rattle.answers.specs.Record.{no_record}
 use Rattle.answers.specs.Bytes.{meaning_of}
 use Rattle.answers.specs.Answers.{outcome_number, outcome_rank}
-use Rattle.judge.specs.declared.Judged.{Judged}
-use Rattle.judge.specs.declared.Judged.TheVariants.{Fine, Refused}
-use Rattle.judge.specs.Judging.{judged_number, judged_rank, judged_lines, start_lines}
+use Rattle.judge.specs.Judging.{Judged, fine, judged_number, judged_rank, judged_lines, start_lines}
 use Rattle.engine.specs.Calls.{After, lines, taking, unless, answer_of}
 use Rattle.engine.specs.Calls.{event_judged, event_after, event_answer, event_work, event_reports}
 use Rattle.engine.specs.Calls.{start_judged, start_after, start_answer, start_work}
@@ -29,31 +28,31 @@ use Rattle.engine.proofs.Taking.{judged_passes}
 
 -- An answer has the number and the rank of its judgement.
 pub answer_number : (j : Judged) (r : Record) (after : After) → outcome_number (answer_of j r after).outcome ≡ judged_number j
-answer_number Fine r after = refl
-answer_number (Refused why) r after = refl
+answer_number fine r after = refl
+answer_number (Err why) r after = refl
 
 pub answer_rank : (j : Judged) (r : Record) (after : After) → outcome_rank (answer_of j r after).outcome ≡ judged_rank j
-answer_rank Fine r after = refl
-answer_rank (Refused why) r after = refl
+answer_rank fine r after = refl
+answer_rank (Err why) r after = refl
 
 -- A judgement with a number above 0 keeps the old record, and the old of anything else.
 old_next : (j : Judged) (r : Record) (after : After) → 0 < outcome_number (answer_of j r after).outcome → (answer_of j r after).next ≡ r
-old_next Fine r after h = absurd (omega (arith, h))
-old_next (Refused why) r after h = refl
+old_next fine r after h = absurd (omega (arith, h))
+old_next (Err why) r after h = refl
 
 old_kept : (j : Judged) (r : Record) (after : After) (old new : List ℕ) → 0 < outcome_number (answer_of j r after).outcome → unless j old new ≡ old
-old_kept Fine r after old new h = absurd (omega (arith, h))
-old_kept (Refused why) r after old new h = refl
+old_kept fine r after old new h = absurd (omega (arith, h))
+old_kept (Err why) r after old new h = refl
 
 -- Lines that give the ranks 1 to `count`, in order: rank i + 1 is given exactly when line i, counted from 0, applies and
 -- none before it does.
 ranked_exactly :
-    (ls : List (Line Judged)) (count : ℕ) → length ls ≡ count → T (distinct (numbers judged_rank ls Fine)) →
-    all count (λ i. eqb (judged_rank (gives_at ls Fine i)) (i + 1)) ≡ true → (x : ℕ) → x ≡ judged_rank (first_of ls Fine) →
+    (ls : List (Line Judged)) (count : ℕ) → length ls ≡ count → T (distinct (numbers judged_rank ls fine)) →
+    all count (λ i. eqb (judged_rank (gives_at ls fine i)) (i + 1)) ≡ true → (x : ℕ) → x ≡ judged_rank (first_of ls fine) →
     (i : ℕ) → i < count → (x ≡ i + 1) ↔ FirstAt ls i
 ranked_exactly ls count long different in_order x e i l =
-    let rank : judged_rank (gives_at ls Fine i) ≡ i + 1 = eqb-true _ _ (all_holds count (λ i. eqb (judged_rank (gives_at ls Fine i)) (i + 1)) in_order i l) in
-    let exactly = given_exactly judged_rank Fine ls different i (omega (arith, long)) in
+    let rank : judged_rank (gives_at ls fine i) ≡ i + 1 = eqb-true _ _ (all_holds count (λ i. eqb (judged_rank (gives_at ls fine i)) (i + 1)) in_order i l) in
+    let exactly = given_exactly judged_rank fine ls different i (omega (arith, long)) in
     (λ h. exactly.0 (sym e ∙ h ∙ sym rank), λ h. e ∙ exactly.1 h ∙ rank)
 
 module _ (f : List ℕ) (r : Record) (work reports : List ℕ) (byte : ℕ) where
@@ -74,7 +73,7 @@ module _ (f : List ℕ) (r : Record) (work reports : List ℕ) (byte : ℕ) wher
       (outcome_number (event_answer f r work reports byte).outcome ≡ 0)
       ↔ ((i : ℕ) → applies_at (lines f r work (length reports) (meaning_of byte)) i ≡ false)
   event_taken =
-      let exactly = taken_exactly judged_number Fine (lines f r work (length reports) (meaning_of byte)) tt in
+      let exactly = taken_exactly judged_number fine (lines f r work (length reports) (meaning_of byte)) tt in
       (λ h. exactly.0 (sym answered ∙ h), λ h. answered ∙ exactly.1 h)
 
   -- A refused event gives its record back, and leaves work memory and reports as they were.
@@ -88,16 +87,16 @@ module _ (f : List ℕ) (r : Record) (work reports : List ℕ) (byte : ℕ) wher
 
   -- Where no line before applies: 15 is given exactly when more positions would be alive after the event than rows.
   pub room_exactly :
-      first_of (judged_lines f r work (length reports) (meaning_of byte)) Fine ≡ Fine →
-      (event_judged f r work reports byte ≡ Refused why.Rows) ↔ (r.rows < (taking (table_of f) r work (meaning_of byte)).next.alive)
+      first_of (judged_lines f r work (length reports) (meaning_of byte)) fine ≡ fine →
+      (event_judged f r work reports byte ≡ Err why.Rows) ↔ (r.rows < (taking (table_of f) r work (meaning_of byte)).next.alive)
   room_exactly h =
       let whole = judged_passes f r work (length reports) (meaning_of byte) (event_after f r work byte) h in
-      (λ g. ltb-true _ _ (full _ (sym whole ∙ g)), λ g. whole ∙ ap (λ (b : Bool). cond b (Refused why.Rows) Fine) (lt-ltb _ _ g))
+      (λ g. ltb-true _ _ (full _ (sym whole ∙ g)), λ g. whole ∙ ap (λ (b : Bool). cond b (Err why.Rows) fine) (lt-ltb _ _ g))
     where
-      full : (b : Bool) → cond b (Refused why.Rows) Fine ≡ Refused why.Rows → b ≡ true
+      full : (b : Bool) → cond b (Err why.Rows) fine ≡ Err why.Rows → b ≡ true
       full true e = refl
       full false e =
-          let n : judged_number Fine ≡ judged_number (Refused why.Rows) = ap judged_number e in
+          let n : judged_number fine ≡ judged_number (Err why.Rows) = ap judged_number e in
           absurd (omega (arith, n))
 
 module _ (f : List ℕ) (rows depth : ℕ) (work : List ℕ) where
@@ -116,7 +115,7 @@ module _ (f : List ℕ) (rows depth : ℕ) (work : List ℕ) where
       (outcome_number (start_answer f rows depth work).outcome ≡ 0)
       ↔ ((i : ℕ) → applies_at (start_lines f rows depth (length work)) i ≡ false)
   start_taken =
-      let exactly = taken_exactly judged_number Fine (start_lines f rows depth (length work)) tt in
+      let exactly = taken_exactly judged_number fine (start_lines f rows depth (length work)) tt in
       (λ h. exactly.0 (sym started ∙ h), λ h. started ∙ exactly.1 h)
 
   -- A refused start gives a record of zeros, and leaves work memory as it was.

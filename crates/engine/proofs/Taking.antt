@@ -1,4 +1,5 @@
 -- The answer of an event whose lines are judged: refused by one of the lines before the last, for want of rows, or taken. Assumes nothing.
+use Rattle.std.specs.Prelude.{Err}
 use mathlib.Core.Path.{◌≡◌, refl, sym, ap, ◌∙◌, subst}
 use mathlib.Core.Bool.{Bool, true, false, cond}
 use mathlib.Core.List.{List, [], ◌∷◌, ◌++◌}
@@ -27,9 +28,7 @@ use Rattle.answers.specs.declared.Refusal.{Refusal}
 use Rattle.answers.specs.declared.Refusal.TheVariants as why
 use Rattle.answers.specs.Bytes.{meaning_of}
 use Rattle.answers.specs.Answers.{refused_of, taken_of}
-use Rattle.judge.specs.declared.Judged.{Judged}
-use Rattle.judge.specs.declared.Judged.TheVariants.{Fine, Refused}
-use Rattle.judge.specs.Judging.{refuses, judged_lines}
+use Rattle.judge.specs.Judging.{Judged, fine, refuses, judged_lines}
 use Rattle.judge.proofs.Following.{first_append}
 use Rattle.judge.proofs.Passed.{EventPassed, passed, event_passed}
 use Rattle.engine.proofs.Ready.{ready}
@@ -52,8 +51,8 @@ ends_length t (h ∷ hs) = ap suc (ends_length t hs)
 ---------------------------------------------------------------- 15
 
 module _ (r : Record) (after : After) where
-  judged_by : (b : Bool) → ltb r.rows after.next.alive ≡ b → room_judged r after ≡ cond b (Refused why.Rows) Fine
-  judged_by b e = ap (λ x. cond x (Refused why.Rows) Fine) e
+  judged_by : (b : Bool) → ltb r.rows after.next.alive ≡ b → room_judged r after ≡ cond b (Err why.Rows) fine
+  judged_by b e = ap (λ x. cond x (Err why.Rows) fine) e
 
   pub room_refused : ltb r.rows after.next.alive ≡ true → (work reports : List ℕ)
       → (refused_of r why.Rows ≡ room_answer r after) × (work ≡ room_work r work after) × (reports ≡ room_reports r reports after)
@@ -74,12 +73,12 @@ data Refusing : List (Line Judged) → Type 0 where
   none : Refusing []
   over : {b : Bool} {w : Refusal} {ls : List (Line Judged)} → Refusing ls → Refusing (refuses b w ∷ ls)
 
-first_then : (ls : List (Line Judged)) → Refusing ls → (o : Judged) → first_of ls o ≡ unless (first_of ls Fine) (first_of ls Fine) o
+first_then : (ls : List (Line Judged)) → Refusing ls → (o : Judged) → first_of ls o ≡ unless (first_of ls fine) (first_of ls fine) o
 first_then [] none o = refl
 first_then (l ∷ ls) (over {b} {w} rest) o = go b (first_then ls rest o)
   where
-    go : (b : Bool) → first_of ls o ≡ unless (first_of ls Fine) (first_of ls Fine) o
-        → cond b (Refused w) (first_of ls o) ≡ unless (cond b (Refused w) (first_of ls Fine)) (cond b (Refused w) (first_of ls Fine)) o
+    go : (b : Bool) → first_of ls o ≡ unless (first_of ls fine) (first_of ls fine) o
+        → cond b (Err w) (first_of ls o) ≡ unless (cond b (Err w) (first_of ls fine)) (cond b (Err w) (first_of ls fine)) o
     go true h = refl
     go false h = h
 
@@ -87,18 +86,18 @@ judged_refusing : (f : List ℕ) (r : Record) (work : List ℕ) (reports : ℕ) 
 judged_refusing f r work reports e = over (over (over (over (over (over (over (over (over (over (over (over (over (over (over none))))))))))))))
 
 module _ (f : List ℕ) (r : Record) (work : List ℕ) (reports : ℕ) (e : Event) (after : After) where
-  judged_then : first_of (judged_lines f r work reports e ++ rows_lines r after) Fine
-      ≡ unless (first_of (judged_lines f r work reports e) Fine) (first_of (judged_lines f r work reports e) Fine) (room_judged r after)
+  judged_then : first_of (judged_lines f r work reports e ++ rows_lines r after) fine
+      ≡ unless (first_of (judged_lines f r work reports e) fine) (first_of (judged_lines f r work reports e) fine) (room_judged r after)
   judged_then =
-      first_append (judged_lines f r work reports e) (rows_lines r after) Fine
+      first_append (judged_lines f r work reports e) (rows_lines r after) fine
       ∙ first_then (judged_lines f r work reports e) (judged_refusing f r work reports e) (room_judged r after)
 
   -- Refused by one of the lines before.
-  pub judged_stands : (w : Refusal) → first_of (judged_lines f r work reports e) Fine ≡ Refused w → first_of (judged_lines f r work reports e ++ rows_lines r after) Fine ≡ Refused w
+  pub judged_stands : (w : Refusal) → first_of (judged_lines f r work reports e) fine ≡ Err w → first_of (judged_lines f r work reports e ++ rows_lines r after) fine ≡ Err w
   judged_stands w h = judged_then ∙ ap (λ x. unless x x (room_judged r after)) h
 
   -- Not refused by one of them: 15 is left.
-  pub judged_passes : first_of (judged_lines f r work reports e) Fine ≡ Fine → first_of (judged_lines f r work reports e ++ rows_lines r after) Fine ≡ room_judged r after
+  pub judged_passes : first_of (judged_lines f r work reports e) fine ≡ fine → first_of (judged_lines f r work reports e ++ rows_lines r after) fine ≡ room_judged r after
   judged_passes h = judged_then ∙ ap (λ x. unless x x (room_judged r after)) h
 
 -- An event byte's meaning and the step that it is. Both closes are one.
@@ -115,14 +114,14 @@ module _ (f : List ℕ) (r : Record) (work reports : List ℕ) (byte : ℕ) wher
   abbrev pub Answers : Answer → List ℕ → List ℕ → Type 0
   Answers x w p = (x ≡ event_answer f r work reports byte) × ((w ≡ event_work f r work reports byte) × (p ≡ event_reports f r work reports byte))
 
-  pub event_refused : (w : Refusal) → first_of (judged_lines f r work (length reports) (meaning_of byte)) Fine ≡ Refused w → Answers (refused_of r w) work reports
+  pub event_refused : (w : Refusal) → first_of (judged_lines f r work (length reports) (meaning_of byte)) fine ≡ Err w → Answers (refused_of r w) work reports
   event_refused w h =
       let after = event_after f r work byte in
       let j = sym (judged_stands f r work (length reports) (meaning_of byte) after w h) in
       (ap (λ x. answer_of x r after) j, (ap (λ x. unless x work after.work) j, ap (λ x. unless x reports (on_front after.reports reports)) j))
 
   -- Past the lines before: whatever answers by 15 for the byte's meaning answers the call.
-  pub event_by : (e : Event) → meaning_of byte ≡ e → first_of (judged_lines f r work (length reports) (meaning_of byte)) Fine ≡ Fine → (x : Answer) (w p : List ℕ)
+  pub event_by : (e : Event) → meaning_of byte ≡ e → first_of (judged_lines f r work (length reports) (meaning_of byte)) fine ≡ fine → (x : Answer) (w p : List ℕ)
       → let after = taking (table_of f) r work e in (x ≡ room_answer r after) × ((w ≡ room_work r work after) × (p ≡ room_reports r reports after)) → Answers x w p
   event_by e m h x w p k =
       let after = event_after f r work byte in
@@ -143,7 +142,7 @@ can_take f r Is.points p = (p.0, p.1)
 can_take f r Is.closes p = (p, tt)
 can_take f r Is.closes_its p = (p, tt)
 
-module _ (f work : List ℕ) (r : Record) (reports : ℕ) (e m : Event) (is : e ≡ m) (h : first_of (judged_lines f r work reports e) Fine ≡ Fine) where
+module _ (f work : List ℕ) (r : Record) (reports : ℕ) (e m : Event) (is : e ≡ m) (h : first_of (judged_lines f r work reports e) fine ≡ fine) where
   pub passed_as : EventPassed (labels_in f) r m
   passed_as = subst (EventPassed (labels_in f) r) is (event_passed f work r reports e h)
 

@@ -1,5 +1,5 @@
 -- What the start call and the event call answer, and what they leave in lent memory, for any input. Definitions only.
-use Rattle.std.specs.Prelude.{List, [], ◌∷◌, ◌++◌, ◌≡◌, ℕ, ltb, length, replicate}
+use Rattle.std.specs.Prelude.{Ok, Err, List, [], ◌∷◌, ◌++◌, ◌≡◌, ℕ, ltb, length, replicate}
 use Rattle.meaning.specs.Table.{Table, table_of}
 use Rattle.meaning.specs.Masks.{accs_of}
 use Rattle.meaning.specs.Refusals.{Line, first_of}
@@ -9,6 +9,7 @@ use Rattle.places.specs.Places.{work_length, rows_part, labels_part}
 use Rattle.places.specs.Memory.{Memory, memory_in, open_in, work_words, LabelsIn}
 use Rattle.reports.specs.Reports.{reports_of, left_of, end_reports}
 use Rattle.meaning.specs.Lent.{on_front}
+use Rattle.stepping.specs.declared.Extent.{Extent}
 use Rattle.stepping.specs.Stepping.{Stands, start_memory, step_memory, left_memory}
 use Rattle.answers.specs.declared.Record.{Record}
 use Rattle.answers.specs.declared.Answer.{Answer}
@@ -18,9 +19,7 @@ use Rattle.answers.specs.declared.Refusal.TheVariants as why
 use Rattle.answers.specs.Record.{started_of, no_record, deeper_of, shallower_of, one_more_of, with_alive, finished_of}
 use Rattle.answers.specs.Bytes.{meaning_of}
 use Rattle.answers.specs.Answers.{refused_of, taken_of}
-use Rattle.judge.specs.declared.Judged.{Judged}
-use Rattle.judge.specs.declared.Judged.TheVariants.{Fine, Refused}
-use Rattle.judge.specs.Judging.{refuses, judged_lines, start_lines}
+use Rattle.judge.specs.Judging.{Judged, fine, refuses, judged_lines, start_lines}
 
 -- What a call that is taken makes of the record and of work memory, and the reports that it gives.
 pub record After : Type 0 where
@@ -33,6 +32,10 @@ abbrev pub step_record : stream.Event → Record → Record
 step_record (stream.Open a) r = one_more_of (deeper_of r)
 step_record (stream.Point a) r = one_more_of r
 step_record stream.Close r = shallower_of r
+
+-- The extent of the work memory that a record goes with.
+abbrev pub extent_of : Record → Extent
+extent_of r = record { rows = r.rows; allowed = r.allowed; depth = r.depth; alive = r.alive }
 
 -- The abstract state that a record and its work memory stand for: the rows, and the labels of the open levels.
 abbrev pub memory_of : Record → List ℕ → Memory
@@ -86,17 +89,17 @@ lines f r work reports e = judged_lines f r work reports e ++ rows_lines r (taki
 
 -- The new value where nothing is refused, and else the old one.
 abbrev pub unless : {A : Type 0} → Judged → A → A → A
-unless Fine old new = new
-unless (Refused why) old new = old
+unless (Ok done) old new = new
+unless (Err why) old new = old
 
 abbrev pub answer_of : Judged → Record → After → Answer
-answer_of Fine r after = taken_of after.next (length after.reports)
-answer_of (Refused why) r after = refused_of r why
+answer_of (Ok done) r after = taken_of after.next (length after.reports)
+answer_of (Err why) r after = refused_of r why
 
 ---------------------------------------------------------------- 15, once all others are passed
 
 abbrev pub room_judged : Record → After → Judged
-room_judged r after = first_of (rows_lines r after) Fine
+room_judged r after = first_of (rows_lines r after) fine
 
 abbrev pub room_answer : Record → After → Answer
 room_answer r after = answer_of (room_judged r after) r after
@@ -111,7 +114,7 @@ room_reports r reports after = unless (room_judged r after) reports (on_front af
 
 -- The first refusal that applies, if any.
 abbrev pub event_judged : List ℕ → Record → List ℕ → List ℕ → ℕ → Judged
-event_judged f r work reports byte = first_of (lines f r work (length reports) (meaning_of byte)) Fine
+event_judged f r work reports byte = first_of (lines f r work (length reports) (meaning_of byte)) fine
 
 -- What the event would make of it all.
 abbrev pub event_after : List ℕ → Record → List ℕ → ℕ → After
@@ -130,7 +133,7 @@ event_reports f r work reports byte =
 ---------------------------------------------------------------- the start call
 
 abbrev pub start_judged : List ℕ → ℕ → ℕ → List ℕ → Judged
-start_judged f rows depth work = first_of (start_lines f rows depth (length work)) Fine
+start_judged f rows depth work = first_of (start_lines f rows depth (length work)) fine
 
 abbrev pub start_after : List ℕ → ℕ → ℕ → After
 start_after f rows depth =
