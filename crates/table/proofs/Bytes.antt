@@ -1,8 +1,8 @@
 -- A body is searched by what its bytes are in the file. Assumes nothing.
 use mathlib.Core.Bool.{true, false}
 use mathlib.Core.List.{List}
-use mathlib.Core.Path.{◌≡◌, ap, ◌∙◌}
-use Prim.Native.Nat.{ℕ, suc, ◌+◌, ◌-◌, ◌<◌, ◌≤◌}
+use mathlib.Core.Path.{◌≡◌, sym, ap, ◌∙◌}
+use Prim.Native.Nat.{ℕ, suc, ◌+◌, ◌<◌, ◌≤◌}
 use native.Mathlib.Decide.{dec_le}
 use native.Mathlib.Omega.{arith}
 use borrow.Author.Tests.{leb-true, leb-false, lt-ltb, le-ltb}
@@ -11,6 +11,7 @@ use lib.ListN.{get_or, length, take, drop}
 use Rattle.std.proofs.Common.{position}
 use Rattle.std.specs.List.{position_or_len, slice_range}
 use Rattle.std.proofs.lemmas.List.{length-take-le, length-drop, get_or-take, get_or-drop}
+use Rattle.std.proofs.Math.Seq.{take-length}
 use Rattle.std.proofs.lemmas.List.Sums.{fails_before_first, passes_at_first}
 use Rattle.bodies.specs.Sound.{states_in, labels_in}
 use Rattle.meaning.specs.Table.{body_at, body_length, in_body}
@@ -46,10 +47,10 @@ module _ (f : List ℕ) (i : ℕ) where
   pub body_searched :
       (at count limit : ℕ) → at ≡ body_at (states_in f) (labels_in f) i → count ≡ body_length (states_in f) (labels_in f) i →
       limit ≡ body_limit (states_in f) i → at + count ≤ length f →
-      position (λ b. leb limit b) (slice_range f at (at + count)) ≡ byte_found f i
+      position (λ b. leb limit b) (take count (slice_range f at (length f))) ≡ byte_found f i
   body_searched at count limit begins size is inside =
-      let length-is : at + count - at ≡ count = omega arith in
-      let dropped : count ≤ length (drop at f) = omega (arith, length-drop at f) in
-      rw (is, length-is)
-      (first_is_wrong (take count (drop at f)) (length-take-le count (drop at f) dropped ∙ size)
-      (λ j l. get_or-take count (drop at f) j 0 (omega (arith, length-take-le count (drop at f) dropped)) ∙ get_or-drop at f j 0 ∙ ap (λ (a : ℕ). get_or f (a + j) 0) begins))
+      let to_end : slice_range f at (length f) ≡ drop at f = rw (sym (length-drop at f)) (take-length (drop at f)) in
+      let long : length (take count (drop at f)) ≡ count = length-take-le count (drop at f) (omega (arith, length-drop at f)) in
+      rw (is, to_end)
+      (first_is_wrong (take count (drop at f)) (long ∙ size)
+      (λ j l. get_or-take count (drop at f) j 0 (omega (arith, long)) ∙ get_or-drop at f j 0 ∙ ap (λ (a : ℕ). get_or f (a + j) 0) begins))

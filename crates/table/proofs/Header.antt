@@ -1,4 +1,4 @@
--- What a header that passes says of n, k and the start state, and how a range's test comes out. Assumes nothing.
+-- What a header that passes says of n, k and the start state. Assumes nothing.
 use mathlib.Core.Bool.{true, ◌&&◌}
 use mathlib.Core.List.{List}
 use mathlib.Core.Path.{◌≡◌}

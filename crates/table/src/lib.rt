@@ -189,8 +189,7 @@ impl Headed<'_> {
     {
         let sizes = self.sizes();
         let limit = if i < 4 { sizes.states } else { 2 };
-        let at = sizes.body_at(i) as usize;
-        let body = &self.file[at..at + sizes.body_length(i) as usize];
+        let body = &self.file[sizes.body_at(i) as usize..][..sizes.body_length(i) as usize];
         first_above(body, limit).map(|place| place as u64)
     }
 

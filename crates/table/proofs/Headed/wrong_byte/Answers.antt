@@ -12,7 +12,7 @@ pub returns : goal.returns
 returns c =
     let f = c.args.self.now.file.now in
     let i = c.args.i in
-    let begins = c.body_at-at.ensures ∙ place_same c.sizes-sizes.ensures.states c.sizes-sizes.ensures.labels i in
+    let begins = c.body_at.ensures ∙ place_same c.sizes-sizes.ensures.states c.sizes-sizes.ensures.labels i in
     let size = c.body_length.ensures ∙ length_same c.sizes-sizes.ensures.states c.sizes-sizes.ensures.labels i in
     let limit : c.if-i-lt4.limit ≡ body_limit (states_in f) i = search rules in
     let same : c.map.result ≡ c.first_above.result = search rules in
