@@ -1,6 +1,6 @@
 -- A refusal of each rank is given exactly when its line applies and none before it does, and the call is taken exactly when
 -- none applies; a refused call keeps what it was lent. Assumes nothing.
-use Rattle.std.specs.Prelude.{Err}
+use Rattle.std.specs.Prelude.{Ok, Err}
 use mathlib.Core.Bool.{Bool, true, false, cond}
 use mathlib.Core.List.{List}
 use mathlib.Core.Logic.{◌↔◌}
@@ -28,20 +28,20 @@ use Rattle.engine.proofs.Taking.{judged_passes}
 
 -- An answer has the number and the rank of its judgement.
 pub answer_number : (j : Judged) (r : Record) (after : After) → outcome_number (answer_of j r after).outcome ≡ judged_number j
-answer_number fine r after = refl
+answer_number (Ok done) r after = refl
 answer_number (Err why) r after = refl
 
 pub answer_rank : (j : Judged) (r : Record) (after : After) → outcome_rank (answer_of j r after).outcome ≡ judged_rank j
-answer_rank fine r after = refl
+answer_rank (Ok done) r after = refl
 answer_rank (Err why) r after = refl
 
 -- A judgement with a number above 0 keeps the old record, and the old of anything else.
 old_next : (j : Judged) (r : Record) (after : After) → 0 < outcome_number (answer_of j r after).outcome → (answer_of j r after).next ≡ r
-old_next fine r after h = absurd (omega (arith, h))
+old_next (Ok done) r after h = absurd (omega (arith, h))
 old_next (Err why) r after h = refl
 
 old_kept : (j : Judged) (r : Record) (after : After) (old new : List ℕ) → 0 < outcome_number (answer_of j r after).outcome → unless j old new ≡ old
-old_kept fine r after old new h = absurd (omega (arith, h))
+old_kept (Ok done) r after old new h = absurd (omega (arith, h))
 old_kept (Err why) r after old new h = refl
 
 -- Lines that give the ranks 1 to `count`, in order: rank i + 1 is given exactly when line i, counted from 0, applies and

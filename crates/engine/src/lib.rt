@@ -68,10 +68,9 @@ fn take(rule: &Rule, r: Record, work: &mut [u64], reports: &mut [u32]) -> Counts
     ensures work_after { work.new ≡ work_words r.rows r.allowed (left_memory (stepped_by rule.now r.positions (memory_of r work.old))) (opened_by (labels_of r work.old) (event_of rule.now.step)) }
     ensures reports_after { reports.new ≡ on_front (reports_of (stepped_by rule.now r.positions (memory_of r work.old)).alive) reports.old }
 {
-    let extent = extent(r);
-    let n = places::rows_length(extent.rows, extent.allowed);
-    labels::take_label(&mut work[n..], rule.step, extent.depth);
-    stepping::take_step(&mut work[..n], reports, rule, extent, r.positions)
+    let n = places::rows_length(r.rows as usize, r.allowed as usize);
+    labels::take_label(&mut work[n..], rule.step, r.depth as usize);
+    stepping::take_step(&mut work[..n], reports, rule, extent(r), r.positions)
 }
 
 // An open, point or close to which no line before applies: refused for want of rows before anything is written, or taken.
