@@ -1,5 +1,6 @@
 -- The cases with all the room that there is, 64 rows and depth 40, as the program runs them; and streams that show that what the
 -- demands speak of is there. Assumes nothing.
+use Rattle.std.specs.Prelude.{Ok, Err}
 use mathlib.Core.Bool.{Bool, true, false, not, ◌&&◌}
 use mathlib.Core.List.{List, [], ◌∷◌, map}
 use mathlib.Core.Path.{◌≡◌, refl, sym, ap, ◌∙◌, subst}
@@ -13,9 +14,7 @@ use Rattle.meaning.specs.Streams.{Point}
 use Rattle.meaning.proofs.Tests.{and_left, and_right}
 use Rattle.meaning.specs.Search.{searched}
 use Rattle.order.specs.Order.{first_fault}
-use Rattle.answers.specs.declared.Outcome.{Outcome}
-use Rattle.answers.specs.declared.Outcome.TheVariants.{Taken, Refused}
-use Rattle.answers.specs.Answers.{outcome_number, refusal_number}
+use Rattle.answers.specs.Answers.{Outcome, outcome_number, refusal_number}
 use Rattle.demands.specs.Watching.{Told, told_all, begun, Started, watching}
 use Rattle.demands.specs.Room.{Alike, NoWant}
 use Rattle.demands.specs.Room as room
@@ -38,10 +37,10 @@ no_want [] h = room.none
 no_want (x ∷ xs) h = go x.outcome refl h (no_want xs)
   where
     go : (o : Outcome) → x.outcome ≡ o → T (none_wanted (shown o x.words ∷ map (λ (y : Told). shown y.outcome y.words) xs)) → (T (none_wanted (map (λ (y : Told). shown y.outcome y.words) xs)) → NoWant xs) → NoWant (x ∷ xs)
-    go (Taken count) e h later =
+    go (Ok count) e h later =
         let zero : outcome_number x.outcome ≡ 0 = ap outcome_number e in
         room.over {x = x} (λ (q : outcome_number x.outcome ≡ 12). omega (arith, zero, q)) (λ (q : outcome_number x.outcome ≡ 15). omega (arith, zero, q)) (later h)
-    go (Refused why) e h later =
+    go (Err why) e h later =
         let a = and_right (not (eqb (refusal_number why) 12)) _ h in
         room.over (λ q. other (refusal_number why) 12 (and_left (not (eqb (refusal_number why) 12)) _ h) (sym (ap outcome_number e) ∙ q))
         (λ q. other (refusal_number why) 15 (and_left (not (eqb (refusal_number why) 15)) _ a) (sym (ap outcome_number e) ∙ q))

@@ -1,12 +1,11 @@
 -- The twelve cases of 01 ("Two tables, worked through", case 12 as 02's K2 has it): what a case claims, and the list of them. Definitions only. A claim
 -- about bytes is made of the start call and the event calls as a caller sees them.
+use Rattle.std.specs.Prelude.{Ok, Err}
 use Rattle.std.specs.Prelude.{List, [], ◌∷◌, map, ◌≡◌, ℕ, ◌+◌, ◌^◌, get_or, replicate}
 use Rattle.meaning.specs.Table.{table_of}
 use Rattle.meaning.specs.Masks.{trees_of, accs_of, down_of}
 use Rattle.places.specs.Places.{selecting_at, rejecting_at, work_length}
-use Rattle.answers.specs.declared.Outcome.{Outcome}
-use Rattle.answers.specs.declared.Outcome.TheVariants.{Taken, Refused}
-use Rattle.answers.specs.Answers.{refusal_number}
+use Rattle.answers.specs.Answers.{Outcome, refusal_number}
 use Rattle.demands.specs.Watching.{Call, Told, told_all, begun, Started}
 use Rattle.cases.specs.Tables.{table_w, table_l}
 
@@ -47,8 +46,8 @@ abbrev pub calling : ℕ → ℕ → Call
 calling rows byte = record { byte = byte; lent = replicate (rows + 1) 9 }
 
 abbrev pub shown : Outcome → List ℕ → Shown
-shown (Taken count) words = reports words
-shown (Refused why) words = refused (refusal_number why)
+shown (Ok count) words = reports words
+shown (Err why) words = refused (refusal_number why)
 
 -- What is told of each byte, from a taken start on.
 abbrev pub showing : List ℕ → ℕ → ℕ → List ℕ → List Shown

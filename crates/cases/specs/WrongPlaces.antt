@@ -1,8 +1,7 @@
 -- Damaged copies of a table like W, of 76 bytes, and what a start and an event answer for each: the number, then the entry
 -- or body, then the field or byte. Definitions only.
 use Rattle.std.specs.Prelude.{List, [], ◌∷◌, ℕ, set}
-use Rattle.answers.specs.declared.Outcome.{Outcome}
-use Rattle.answers.specs.Answers.{outcome_number, outcome_place}
+use Rattle.answers.specs.Answers.{Outcome, outcome_number, outcome_place}
 use Rattle.engine.specs.Calls.{start_answer}
 use Rattle.demands.specs.Watching.{begun, outcome_of}
 use Rattle.cases.specs.Cases.{before, calling}

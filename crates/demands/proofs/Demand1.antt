@@ -1,4 +1,5 @@
 -- Demand 1: nothing is assumed of a caller. Assumes nothing.
+use Rattle.std.specs.Prelude.{Ok, Err}
 use mathlib.Core.Bool.{Bool, true, false, cond, ◌&&◌}
 use mathlib.Core.List.{List, [], ◌∷◌}
 use mathlib.Core.Path.{◌≡◌, refl}
@@ -13,9 +14,7 @@ use Rattle.answers.specs.Record.{no_record}
 use Rattle.answers.specs.Bytes.{meaning_of}
 use Rattle.answers.specs.Answers.{outcome_number, outcome_rank}
 use Rattle.answers.proofs.Ranks.{outcome_at_rank}
-use Rattle.judge.specs.declared.Judged.{Judged}
-use Rattle.judge.specs.declared.Judged.TheVariants.{Fine, Refused}
-use Rattle.judge.specs.Judging.{judged_rank, start_lines}
+use Rattle.judge.specs.Judging.{Judged, fine, judged_rank, start_lines}
 use Rattle.engine.specs.Calls.{After, lines, answer_of, event_judged, event_after, event_answer, start_judged, start_after, start_answer}
 use Rattle.engine.proofs.Numbers.{answer_rank, event_exactly, event_taken, refused_keeps, start_exactly, start_taken, start_refused_keeps}
 use Rattle.demands.specs.Watching.{count_of}
@@ -29,13 +28,13 @@ below k [] = true
 below k (x ∷ xs) = ltb x k && below k xs
 
 -- What is given has a rank below k where all lines' have.
-given_below : (k : ℕ) (ls : List (Line Judged)) → T (below k (numbers judged_rank ls Fine)) → judged_rank (first_of ls Fine) < k
+given_below : (k : ℕ) (ls : List (Line Judged)) → T (below k (numbers judged_rank ls fine)) → judged_rank (first_of ls fine) < k
 given_below k [] h = ltb→lt 0 k (and_left (ltb 0 k) true h)
 given_below k (l ∷ ls) h =
-    let rest : Bool = below k (numbers judged_rank ls Fine) in
+    let rest : Bool = below k (numbers judged_rank ls fine) in
     go l.applies (ltb→lt _ k (and_left (ltb (judged_rank l.gives) k) rest h)) (given_below k ls (and_right (ltb (judged_rank l.gives) k) rest h))
   where
-    go : (b : Bool) → judged_rank l.gives < k → judged_rank (first_of ls Fine) < k → judged_rank (cond b l.gives (first_of ls Fine)) < k
+    go : (b : Bool) → judged_rank l.gives < k → judged_rank (first_of ls fine) < k → judged_rank (cond b l.gives (first_of ls fine)) < k
     go true first later = first
     go false first later = later
 
@@ -43,8 +42,8 @@ answer_below : (k : ℕ) (j : Judged) (r : Record) (after : After) → judged_ra
 answer_below k j r after h = rw (answer_rank j r after) h
 
 none_counted : (j : Judged) (r : Record) (after : After) → 0 < outcome_number (answer_of j r after).outcome → count_of (answer_of j r after).outcome ≡ 0
-none_counted Fine r after h = absurd (omega (arith, h))
-none_counted (Refused why) r after h = refl
+none_counted (Ok done) r after h = absurd (omega (arith, h))
+none_counted (Err why) r after h = refl
 
 pub demand_1 : (f : List ℕ) (r : Record) (work reports : List ℕ) (byte : ℕ) → Demand1 f r work reports byte
 demand_1 f r work reports byte =

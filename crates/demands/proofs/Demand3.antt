@@ -1,4 +1,6 @@
 -- Demand 3: each report comes at the first moment it can. Assumes a watch that a taken start and any calls led to.
+use Rattle.std.specs.Prelude.{Ok, Err}
+use Rattle.judge.specs.Judging.{Judged, fine}
 use mathlib.Core.Bool.{Bool, true, false, true≢false}
 use mathlib.Core.List.{List, [], ◌∷◌, ◌++◌, append_assoc, append-nil}
 use mathlib.Core.Logic.{◌⊎◌, inl, inr, ⊎_elim}
@@ -11,8 +13,6 @@ use Rattle.answers.specs.declared.Record.{Record}
 use Rattle.answers.specs.declared.Event.TheVariants.{Unknown}
 use Rattle.answers.specs.Bytes.{meaning_of}
 use Rattle.answers.specs.Answers.{outcome_number}
-use Rattle.judge.specs.declared.Judged.{Judged}
-use Rattle.judge.specs.declared.Judged.TheVariants.{Fine, Refused}
 use Rattle.engine.specs.Calls.{After, memory_of}
 use Rattle.following.specs.Lists.{In}
 use Rattle.following.specs.Following.{memory_after, held_after, positions_of}
@@ -36,23 +36,23 @@ goes_as t {before} {before'} {after} {after'} {words} {words'} e f g h =
 
 module _ (f : List ℕ) (rows depth : ℕ) (s : Watching) (follow : Follows f rows depth s) (c : Call) where
   -- A taken call is one taken event.
-  pub goes_on : judged_of f s c ≡ Fine → Goes (table_of f) s.stream (called f s c).stream (given f s c)
-  goes_on fine = go (kind (meaning_of c.byte))
+  pub goes_on : judged_of f s c ≡ fine → Goes (table_of f) s.stream (called f s c).stream (given f s c)
+  goes_on passes = go (kind (meaning_of c.byte))
     where
       free : Early f rows depth s follow c
-      free = early f rows depth s follow c fine
+      free = early f rows depth s follow c passes
 
       before : s.stream ≡ going s.stream.events
       before = ap (λ (b : Bool). record { events = s.stream.events; ended = b }) (going_on f rows depth s follow c free)
 
       go : Kind (meaning_of c.byte) → Goes (table_of f) s.stream (called f s c).stream (given f s c)
       go (Kind.event e means) =
-          goes_as (table_of f) before (ap (λ (y : Watching). y.stream) (called_event f rows depth s follow c fine e means))
-          (given_is f s c fine ∙ ap (λ (a : After). a.reports) (after_event f rows depth s follow c free e means))
+          goes_as (table_of f) before (ap (λ (y : Watching). y.stream) (called_event f rows depth s follow c passes e means))
+          (given_is f s c passes ∙ ap (λ (a : After). a.reports) (after_event f rows depth s follow c free e means))
           (goes_event (table_of f) follow.formed e follow.reads (can_read f rows depth s follow c free e means).reads_on)
       go (Kind.end is) =
-          goes_as (table_of f) before (ap (λ (y : Watching). y.stream) (called_end f rows depth s follow c fine is))
-          (given_is f s c fine ∙ ap (λ (a : After). a.reports) (after_end f rows depth s follow c free is))
+          goes_as (table_of f) before (ap (λ (y : Watching). y.stream) (called_end f rows depth s follow c passes is))
+          (given_is f s c passes ∙ ap (λ (a : After). a.reports) (after_end f rows depth s follow c free is))
           (goes_end (table_of f) follow.formed (subst (λ (d : ℕ). stream.Prefix (table_of f) s.stream.events d) (all_closed f rows depth s follow c free is) follow.reads))
       go (Kind.nothing is) = absurd (passed_as f rows depth s follow c free Unknown is)
 
@@ -69,12 +69,12 @@ so_far_call : (f : List ℕ) (rows depth : ℕ) (s : Watching) → Follows f row
 so_far_call f rows depth s follow far c = go (judged_of f s c) refl
   where
     go : (j : Judged) → judged_of f s c ≡ j → FarOf f (called f s c)
-    go Fine fine =
+    go (Ok done) passes =
         let told : (called f s c).reports ≡ s.reports ++ (given f s c ∷ []) =
-        ap (λ (x : Watching). x.reports) (taken_call f s c fine) ∙ ap (λ (words : List ℕ). s.reports ++ (words ∷ [])) (sym (given_is f s c fine)) in
+        ap (λ (x : Watching). x.reports) (taken_call f s c passes) ∙ ap (λ (words : List ℕ). s.reports ++ (words ∷ [])) (sym (given_is f s c passes)) in
         subst (SoFar (table_of f) (called f s c).stream) (sym (ap joined told ∙ joined_one s.reports (given f s c)))
-        (so_far_on (table_of f) s.stream (called f s c).stream (joined s.reports) (given f s c) far (goes_on f rows depth s follow c fine))
-    go (Refused why) e = subst (FarOf f) (sym (refused_call f s c why e)) far
+        (so_far_on (table_of f) s.stream (called f s c).stream (joined s.reports) (given f s c) far (goes_on f rows depth s follow c passes))
+    go (Err why) e = subst (FarOf f) (sym (refused_call f s c why e)) far
 
 so_far_calls : (f : List ℕ) (rows depth : ℕ) (cs : List Call) (s : Watching) → Follows f rows depth s → FarOf f s → FarOf f (called_all f s cs)
 so_far_calls f rows depth [] s follow far = far
@@ -97,8 +97,8 @@ kept_by_calls f rows depth P keeps (c ∷ cs) s follow h =
     kept_by_calls f rows depth P keeps cs (called f s c) (follows_call f rows depth s follow c) (go (judged_of f s c) refl)
   where
     go : (j : Judged) → judged_of f s c ≡ j → P (called f s c).stream
-    go Fine fine = keeps s.stream (called f s c).stream (given f s c) (goes_on f rows depth s follow c fine) h
-    go (Refused why) e = subst (λ (x : Watching). P x.stream) (sym (refused_call f s c why e)) h
+    go (Ok done) passes = keeps s.stream (called f s c).stream (given f s c) (goes_on f rows depth s follow c passes) h
+    go (Err why) e = subst (λ (x : Watching). P x.stream) (sym (refused_call f s c why e)) h
 
 ---------------------------------------------------------------- what is in rows
 

@@ -1,5 +1,6 @@
 -- A watch follows its stream: after a taken start and any calls, record and memory are those of the events taken. Assumes
 -- nothing but that the start was taken.
+use Rattle.std.specs.Prelude.{Ok, Err}
 use mathlib.Core.Bool.{Bool, true, false, not, true≢false}
 use mathlib.Core.List.{List, [], ◌∷◌, ◌++◌}
 use mathlib.Core.Path.{◌≡◌, refl, sym, ap, ◌∙◌, subst}
@@ -27,10 +28,8 @@ use Rattle.answers.specs.declared.Event.TheVariants.{End, Unknown}
 use Rattle.answers.specs.Bytes.{meaning_of}
 use Rattle.answers.specs.Answers.{outcome_number}
 use Rattle.answers.specs.Record.{no_record, with_alive, finished_of}
-use Rattle.judge.specs.declared.Judged.{Judged}
-use Rattle.judge.specs.declared.Judged.TheVariants.{Fine, Refused}
 use Rattle.answers.specs.declared.Refusal.TheVariants.{Sizes}
-use Rattle.judge.specs.Judging.{refuses, judged_number, table_lines, sizes_right, start_lines}
+use Rattle.judge.specs.Judging.{Judged, fine, refuses, judged_number, table_lines, sizes_right, start_lines}
 use Rattle.judge.proofs.Passed.{EventPassed, passed, event_passed, start_passed}
 use Rattle.engine.specs.Calls.{After, step_record, memory_of, labels_of, taking, answer_of, unless, event_answer, start_judged, start_after}
 use Rattle.engine.proofs.Numbers.{event_taken, start_taken}
@@ -75,8 +74,8 @@ pub record Follows (f : List ℕ) (rows depth : ℕ) (s : Watching) : Type 0 whe
 pub follows_start : (f : List ℕ) (rows depth : ℕ) (work : List ℕ) → Started f rows depth work → Follows f rows depth (begun f rows depth work)
 follows_start f rows depth work h =
     let none = (start_taken f rows depth work).0 h in
-    let fine : start_judged f rows depth work ≡ Fine = none_taken judged_number Fine (start_lines f rows depth (length work)) none in
-    let p = start_passed f rows depth (length work) fine in
+    let passes : start_judged f rows depth work ≡ fine = none_taken judged_number fine (start_lines f rows depth (length work)) none in
+    let p = start_passed f rows depth (length work) passes in
     record {
       formed = p.sound.formed;
       file_right = λ i l. sym (front_applies (table_lines f) (refuses (not (sizes_right rows depth (length work))) Sizes ∷ []) i l) ∙ none i;
@@ -88,8 +87,8 @@ follows_start f rows depth work h =
       room = omega arith;
       numbered = omega arith;
       closed = λ e. refl;
-      now_is = ap (λ j. (answer_of j no_record (start_after f rows depth)).next) fine;
-      work_is = ap (λ j. unless j work (start_after f rows depth).work) fine;
+      now_is = ap (λ j. (answer_of j no_record (start_after f rows depth)).next) passes;
+      work_is = ap (λ j. unless j work (start_after f rows depth).work) passes;
     }
 
 ---------------------------------------------------------------- events
@@ -166,10 +165,10 @@ module _ (f : List ℕ) (rows depth : ℕ) (s : Watching) (follow : Follows f ro
   module _ (c : Call) where
     -- No line before the last applies.
     abbrev pub Early : Type 0
-    Early = first_of (first_lines f s c) Fine ≡ Fine
+    Early = first_of (first_lines f s c) fine ≡ fine
 
-    pub early : judged_of f s c ≡ Fine → Early
-    early fine = early_judged f s.now s.work c.lent c.byte fine
+    pub early : judged_of f s c ≡ fine → Early
+    early passes = early_judged f s.now s.work c.lent c.byte passes
 
     module _ (free : Early) where
       -- Then the end was not taken before.
@@ -243,7 +242,7 @@ module _ (f : List ℕ) (rows depth : ℕ) (s : Watching) (follow : Follows f ro
             ∙ ap (λ (n : ℕ). record { next = record_at t rows depth 0 w true; work = replicate n 0; reports = end_reported }) work_long
 
     -- The call is taken: what the caller then has.
-    module _ (fine : judged_of f s c ≡ Fine) where
+    module _ (passes : judged_of f s c ≡ fine) where
       module _ (e : stream.Event) (means : Means (meaning_of c.byte) e) where
         pub called_event : called f s c ≡ record {
           stream = record { events = next e; ended = false };
@@ -252,18 +251,18 @@ module _ (f : List ℕ) (rows depth : ℕ) (s : Watching) (follow : Follows f ro
           reports = s.reports ++ (reported e ∷ []);
         }
         called_event =
-            taken_call f s c fine
+            taken_call f s c passes
             ∙ ap (λ (x : Stream). having s x (after_of f s c)) (longer_event s.stream means)
-            ∙ ap (λ (b : Bool). having s (record { events = next e; ended = b }) (after_of f s c)) (going_on (early fine))
-            ∙ ap (having s (record { events = next e; ended = false })) (after_event (early fine) e means)
+            ∙ ap (λ (b : Bool). having s (record { events = next e; ended = b }) (after_of f s c)) (going_on (early passes))
+            ∙ ap (having s (record { events = next e; ended = false })) (after_event (early passes) e means)
 
         -- 15 did not apply.
         fits : length (memory_after t (next e)).alive ≤ rows
         fits =
-            let taken : outcome_number (event_answer f s.now s.work c.lent c.byte).outcome ≡ 0 = ap (λ (x : Answer). outcome_number x.outcome) (taken_answer f s.now s.work c.lent c.byte fine) in
+            let taken : outcome_number (event_answer f s.now s.work c.lent c.byte).outcome ≡ 0 = ap (λ (x : Answer). outcome_number x.outcome) (taken_answer f s.now s.work c.lent c.byte passes) in
             let some : (after_of f s c).next.alive ≤ s.now.rows = ltb-false s.now.rows (after_of f s c).next.alive ((event_taken f s.now s.work c.lent c.byte).0 taken 15) in
-            let alive : (after_of f s c).next.alive ≡ length (memory_after t (next e)).alive = ap (λ (a : After). a.next.alive) (after_event (early fine) e means) in
-            let all : s.now.rows ≡ rows = ap (λ (r : Record). r.rows) (now_before (early fine)) in
+            let alive : (after_of f s c).next.alive ≡ length (memory_after t (next e)).alive = ap (λ (a : After). a.next.alive) (after_event (early passes) e means) in
+            let all : s.now.rows ≡ rows = ap (λ (r : Record). r.rows) (now_before (early passes)) in
             omega (arith, some, alive, all)
 
         follows_event : Follows f rows depth (called f s c)
@@ -275,10 +274,10 @@ module _ (f : List ℕ) (rows depth : ℕ) (s : Watching) (follow : Follows f ro
               sized = follow.sized;
               few_levels = follow.few_levels;
               levels = depth_after e follow.levels;
-              reads = reads_join follow.reads (can_read (early fine) e means).reads_on;
-              deep = (can_read (early fine) e means).still_deep;
+              reads = reads_join follow.reads (can_read (early passes) e means).reads_on;
+              deep = (can_read (early passes) e means).still_deep;
               room = fits;
-              numbered = omega (arith, (can_read (early fine) e means).still_numbered, positions_append w (e ∷ []));
+              numbered = omega (arith, (can_read (early passes) e means).still_numbered, positions_append w (e ∷ []));
               closed = λ b. absurd (true≢false (sym b));
               now_is = refl;
               work_is = refl;
@@ -292,9 +291,9 @@ module _ (f : List ℕ) (rows depth : ℕ) (s : Watching) (follow : Follows f ro
           reports = s.reports ++ (end_reported ∷ []);
         }
         called_end =
-            taken_call f s c fine
+            taken_call f s c passes
             ∙ ap (λ (x : Event). having s (longer s.stream x) (after_of f s c)) is
-            ∙ ap (having s (record { events = w; ended = true })) (after_end (early fine) is)
+            ∙ ap (having s (record { events = w; ended = true })) (after_end (early passes) is)
 
         follows_end : Follows f rows depth (called f s c)
         follows_end =
@@ -305,7 +304,7 @@ module _ (f : List ℕ) (rows depth : ℕ) (s : Watching) (follow : Follows f ro
               sized = follow.sized;
               few_levels = follow.few_levels;
               levels = 0;
-              reads = subst (Prefix t w) (all_closed (early fine) is) follow.reads;
+              reads = subst (Prefix t w) (all_closed (early passes) is) follow.reads;
               deep = omega arith;
               room = follow.room;
               numbered = follow.numbered;
@@ -317,14 +316,14 @@ module _ (f : List ℕ) (rows depth : ℕ) (s : Watching) (follow : Follows f ro
 pub follows_call : (f : List ℕ) (rows depth : ℕ) (s : Watching) → Follows f rows depth s → (c : Call) → Follows f rows depth (called f s c)
 follows_call f rows depth s follow c = go (judged_of f s c) refl
   where
-    taken : judged_of f s c ≡ Fine → Kind (meaning_of c.byte) → Follows f rows depth (called f s c)
-    taken fine (Kind.event e means) = follows_event f rows depth s follow c fine e means
-    taken fine (Kind.end is) = follows_end f rows depth s follow c fine is
-    taken fine (Kind.nothing is) = absurd (passed_as f rows depth s follow c (early f rows depth s follow c fine) Unknown is)
+    taken : judged_of f s c ≡ fine → Kind (meaning_of c.byte) → Follows f rows depth (called f s c)
+    taken passes (Kind.event e means) = follows_event f rows depth s follow c passes e means
+    taken passes (Kind.end is) = follows_end f rows depth s follow c passes is
+    taken passes (Kind.nothing is) = absurd (passed_as f rows depth s follow c (early f rows depth s follow c passes) Unknown is)
 
     go : (j : Judged) → judged_of f s c ≡ j → Follows f rows depth (called f s c)
-    go Fine e = taken e (kind (meaning_of c.byte))
-    go (Refused why) e = subst (Follows f rows depth) (sym (refused_call f s c why e)) follow
+    go (Ok done) e = taken e (kind (meaning_of c.byte))
+    go (Err why) e = subst (Follows f rows depth) (sym (refused_call f s c why e)) follow
 
 -- After any calls.
 pub follows_calls : (f : List ℕ) (rows depth : ℕ) (cs : List Call) (s : Watching) → Follows f rows depth s → Follows f rows depth (called_all f s cs)

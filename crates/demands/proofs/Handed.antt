@@ -1,4 +1,5 @@
 -- A watch's own record and memory, handed back as received, are in order. Assumes a watch that a taken start and any calls led to.
+use Rattle.std.specs.Prelude.{None}
 use mathlib.Core.Bool.{Bool, true, false, not}
 use mathlib.Core.List.{List, [], ◌∷◌, ◌++◌}
 use mathlib.Core.Path.{◌≡◌, refl, sym, ap, ◌∙◌}
@@ -15,14 +16,12 @@ use Rattle.meaning.specs.Streams.{open_after}
 use Rattle.meaning.proofs.Rows as below
 use Rattle.places.specs.Places.{label_at, work_length, labels_part}
 use Rattle.places.specs.Memory.{work_words}
-use Rattle.order.specs.declared.Place.TheVariants.{Fine}
 use Rattle.order.specs.Order.{first_fault}
 use Rattle.answers.specs.declared.Record.{Record}
 use Rattle.answers.specs.declared.Event.{Event}
 use Rattle.answers.specs.declared.Event.TheVariants.{Open, Point, Close, CloseOf, End, Unknown}
 use Rattle.answers.specs.Bytes.{meaning_of}
-use Rattle.judge.specs.declared.Judged.{Judged}
-use Rattle.judge.specs.Judging.{table_lines, call_lines, event_lines, record_right, shape_of, fault_of, is_fault, closes_another, newest_word}
+use Rattle.judge.specs.Judging.{Judged, table_lines, call_lines, event_lines, record_right, shape_of, fault_of, is_fault, closes_another, newest_word}
 use Rattle.bodies.specs.Sound.{states_in, labels_in}
 use Rattle.engine.specs.Calls.{taking, rows_lines}
 use Rattle.following.specs.Following.{memory_after}
@@ -68,13 +67,13 @@ module _ (f : List ℕ) (rows depth : ℕ) (s : Watching) (follow : Follows f ro
   right_at false = rw (le-leb _ _ follow.room, le-leb _ _ follow.deep, le-leb _ _ follow.numbered)
   right_at true = rw (le-leb 0 rows (omega arith), le-leb 0 depth (omega arith), le-leb _ _ follow.numbered)
 
-  fine_at : (b : Bool) → first_fault (shape_of (record_at t rows depth follow.levels w b) t.states t.labels) (work_at t rows depth w b) ≡ Fine
+  fine_at : (b : Bool) → first_fault (shape_of (record_at t rows depth follow.levels w b) t.states t.labels) (work_at t rows depth w b) ≡ None
   fine_at false =
       in_order t.states rows depth follow.levels (stream.positions w) t.labels (memory_after t w) (open_after [] w) follow.few_levels follow.deep follow.room
       (memory_good t follow.formed follow.reads) (held_rise t w) (levels_open f rows depth s follow) (open_labels follow.reads [] below.none)
   fine_at true = zeros_in_order t.states rows depth (stream.positions w) t.labels (work_length rows depth)
 
-  no_fault : fault_of s.now t.states t.labels s.work ≡ Fine
+  no_fault : fault_of s.now t.states t.labels s.work ≡ None
   no_fault =
       let b = s.stream.ended in
       ap (λ (r : Record). fault_of r t.states t.labels s.work) follow.now_is

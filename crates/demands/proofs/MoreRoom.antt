@@ -1,5 +1,6 @@
 -- More room changes nothing: of two watches over one table the second, with at least the rows and levels of the first, answers and
 -- reports the same, up to the first's refusal for want of either. Assumes that both starts were taken.
+use Rattle.std.specs.Prelude.{Ok, Err}
 use mathlib.Core.Bool.{Bool, true, false}
 use mathlib.Core.List.{List, [], ◌∷◌, ◌++◌}
 use mathlib.Core.Logic.{◌⊎◌, inl, inr, ⊎_elim}
@@ -23,13 +24,10 @@ use Rattle.stepping.specs.Stepping.{step_memory}
 use Rattle.answers.specs.declared.Record.{Record}
 use Rattle.answers.specs.declared.Event.{Event}
 use Rattle.answers.specs.declared.Event.TheVariants.{Open, Point, Close, CloseOf, End, Unknown}
-use Rattle.answers.specs.declared.Outcome.TheVariants.{Taken}
 use Rattle.answers.specs.declared.Refusal.{Refusal}
 use Rattle.answers.specs.declared.Refusal.TheVariants as why
 use Rattle.answers.specs.Bytes.{meaning_of}
-use Rattle.judge.specs.declared.Judged.{Judged}
-use Rattle.judge.specs.declared.Judged.TheVariants.{Fine, Refused}
-use Rattle.judge.specs.Judging.{refuses, judged_number, event_lines, newest_word, closes_nothing, closes_another, opens_too_deep, ends_open, out_of_positions}
+use Rattle.judge.specs.Judging.{Judged, fine, refuses, judged_number, event_lines, newest_word, closes_nothing, closes_another, opens_too_deep, ends_open, out_of_positions}
 use Rattle.engine.specs.Calls.{After, memory_of, stepped, taking, rows_lines, lines, answer_of}
 use Rattle.engine.proofs.Numbers.{answer_number}
 use Rattle.following.specs.Following.{memory_after}
@@ -189,12 +187,12 @@ module _ (f : List ℕ) (rows depth rows' depth' : ℕ) (more_rows : rows ≤ ro
 
   same_judged : ¬ Wants (judged_of f s c) → judged_of f s c ≡ judged_of f s' c'
   same_judged h =
-      looser_first looser Fine h
-      ∙ ap (λ b. first_of (lines f s'.now s'.work (length c'.lent) (meaning_of b)) Fine) byte_same
+      looser_first looser fine h
+      ∙ ap (λ b. first_of (lines f s'.now s'.work (length c'.lent) (meaning_of b)) fine) byte_same
 
-  same_told_now : judged_of f s c ≡ Fine → (after_of f s c).reports ≡ (after_of f s' c').reports
-  same_told_now fine =
-      let going = going_on f rows depth s beside.one c (early f rows depth s beside.one c fine) in
+  same_told_now : judged_of f s c ≡ fine → (after_of f s c).reports ≡ (after_of f s' c').reports
+  same_told_now passes =
+      let going = going_on f rows depth s beside.one c (early f rows depth s beside.one c passes) in
       (step_same t s.now s'.now s.work s'.work (same_rows going) same_positions (meaning_of c.byte)).1
       ∙ ap (λ b. (taking t s'.now s'.work (meaning_of b)).reports) byte_same
 
@@ -207,12 +205,12 @@ module _ (f : List ℕ) (rows depth rows' depth' : ℕ) (more_rows : rows ≤ ro
   after_both e told =
       record { one = follows_call f rows depth s beside.one c; other = follows_call f rows' depth' s' beside.other c'; same_stream = e; same_told = told }
 
-  taken_same : judged_of f s c ≡ Fine → judged_of f s' c' ≡ Fine → SameNext
+  taken_same : judged_of f s c ≡ fine → judged_of f s' c' ≡ fine → SameNext
   taken_same e e' =
       let told = same_told_now e in
       let x = taken_call f s c e in
       let x' = taken_call f s' c' e' in (
-        ap (λ j. (answer_of j s.now (after_of f s c)).outcome) e ∙ ap (λ (words : List ℕ). Taken (length words)) told ∙ sym (ap (λ j. (answer_of j s'.now (after_of f s' c')).outcome) e'),
+        ap (λ j. (answer_of j s.now (after_of f s c)).outcome) e ∙ ap (λ (words : List ℕ). Ok (length words)) told ∙ sym (ap (λ j. (answer_of j s'.now (after_of f s' c')).outcome) e'),
         given_is f s c e ∙ told ∙ sym (given_is f s' c' e'),
         after_both
             (ap (λ (y : Watching). y.stream) x
@@ -225,7 +223,7 @@ module _ (f : List ℕ) (rows depth rows' depth' : ℕ) (more_rows : rows ≤ ro
             ∙ sym (ap (λ (y : Watching). y.reports) x')),
       )
 
-  refused_same : (reason : Refusal) → judged_of f s c ≡ Refused reason → judged_of f s' c' ≡ Refused reason → SameNext
+  refused_same : (reason : Refusal) → judged_of f s c ≡ Err reason → judged_of f s' c' ≡ Err reason → SameNext
   refused_same reason e e' =
       let x = refused_call f s c reason e in
       let x' = refused_call f s' c' reason e' in (
@@ -239,8 +237,8 @@ module _ (f : List ℕ) (rows depth rows' depth' : ℕ) (more_rows : rows ≤ ro
   next_same h = go (judged_of f s c) refl
     where
       go : (j : Judged) → judged_of f s c ≡ j → SameNext
-      go Fine e = taken_same e (sym (same_judged h) ∙ e)
-      go (Refused reason) e = refused_same reason e (sym (same_judged h) ∙ e)
+      go (Ok done) e = taken_same e (sym (same_judged h) ∙ e)
+      go (Err reason) e = refused_same reason e (sym (same_judged h) ∙ e)
 
 module _ (f : List ℕ) (rows depth rows' depth' : ℕ) (more_rows : rows ≤ rows') (more_depth : depth ≤ depth') where
   calls_same :

@@ -1,4 +1,6 @@
 -- A byte that was judged, as an event of the stream: what it means, and that the stream goes on with it. Assumes nothing.
+use Rattle.std.specs.Prelude.{Ok, Err}
+use Rattle.answers.specs.Answers.{Outcome}
 use mathlib.Core.Bool.{false}
 use mathlib.Core.List.{List, [], ◌∷◌, ◌++◌, append-nil, append_assoc}
 use mathlib.Core.Path.{◌≡◌, refl, sym, ap, subst, ◌∙◌}
@@ -12,8 +14,6 @@ use Rattle.rows.specs.Steps.{depth_after}
 use Rattle.answers.specs.declared.Record.{Record}
 use Rattle.answers.specs.declared.Event.{Event}
 use Rattle.answers.specs.declared.Event.TheVariants.{Open, Point, Close, CloseOf, End, Unknown}
-use Rattle.answers.specs.declared.Outcome.{Outcome}
-use Rattle.answers.specs.declared.Outcome.TheVariants.{Taken, Refused}
 use Rattle.answers.specs.Bytes.{meaning_of, event_of, events_of}
 use Rattle.judge.proofs.Passed.{EventPassed}
 use Rattle.engine.specs.Calls.{step_record, stepped, taking}
@@ -39,10 +39,10 @@ stream_is f s (c ∷ cs) = stream_is f (called f s c) cs ∙ go (outcome_of f s 
     go : (x : Outcome) →
         (on_taken x s.stream (longer s.stream (meaning_of c.byte))).events ++ events_of rest
         ≡ s.stream.events ++ events_of (on_taken x [] (c.byte ∷ []) ++ rest)
-    go (Taken reports) =
+    go (Ok reports) =
         ap (λ (es : List stream.Event). es ++ events_of rest) (longer_events s.stream (meaning_of c.byte))
         ∙ append_assoc s.stream.events (event_of (meaning_of c.byte)) (events_of rest)
-    go (Refused why) = refl
+    go (Err why) = refl
 
 -- What a byte means is this event of the stream. Both closes are one.
 pub data Means : Event → stream.Event → Type 0 where

@@ -1,4 +1,5 @@
 -- What a caller has after a call: nothing new where it was refused, and else what the rules name. Assumes nothing.
+use Rattle.std.specs.Prelude.{Ok, Err}
 use mathlib.Core.List.{List, [], ◌∷◌, ◌++◌}
 use mathlib.Core.Path.{◌≡◌, refl, sym, ap, ◌∙◌}
 use Prim.Native.Nat.{ℕ, ◌+◌, ◌-◌}
@@ -17,9 +18,7 @@ use Rattle.answers.specs.declared.Answer.{Answer}
 use Rattle.answers.specs.declared.Refusal.{Refusal}
 use Rattle.answers.specs.Bytes.{meaning_of}
 use Rattle.answers.specs.Answers.{outcome_number, taken_of}
-use Rattle.judge.specs.declared.Judged.{Judged}
-use Rattle.judge.specs.declared.Judged.TheVariants.{Fine, Refused}
-use Rattle.judge.specs.Judging.{judged_number, judged_lines}
+use Rattle.judge.specs.Judging.{Judged, fine, judged_number, judged_lines}
 use Rattle.judge.proofs.Passed.{Passed, passed}
 use Rattle.engine.specs.Calls.{After, Ready, lines, memory_of, labels_of, unless, answer_of, event_judged, event_after, event_answer, event_work, event_reports}
 use Rattle.engine.proofs.Numbers.{event_taken}
@@ -29,7 +28,7 @@ use Rattle.demands.specs.Watching.{Call, Stream, Watching, longer, count_of, on_
 use Rattle.demands.specs.Demands.{StepDemand2}
 
 -- A refusal is one.
-pub not_fine : {why : Refusal} → Refused why ≡ Fine → ⊥
+pub not_fine : {why : Refusal} → Err why ≡ fine → ⊥
 not_fine e = let z : ◌≡◌ {A = ℕ} 0 1 = cc in omega (arith, z)
 
 -- Work memory that can be stepped is the words of its rows and then those of its labels.
@@ -47,28 +46,28 @@ ready_stands n r work s =
 
 module _ (f : List ℕ) (r : Record) (work reports : List ℕ) (byte : ℕ) where
   -- A call that was taken was not refused.
-  pub taken_judged : outcome_number (event_answer f r work reports byte).outcome ≡ 0 → event_judged f r work reports byte ≡ Fine
-  taken_judged h = none_taken judged_number Fine (lines f r work (length reports) (meaning_of byte)) ((event_taken f r work reports byte).0 h)
+  pub taken_judged : outcome_number (event_answer f r work reports byte).outcome ≡ 0 → event_judged f r work reports byte ≡ fine
+  taken_judged h = none_taken judged_number fine (lines f r work (length reports) (meaning_of byte)) ((event_taken f r work reports byte).0 h)
 
   -- By no line before the last either.
-  pub early_judged : event_judged f r work reports byte ≡ Fine → first_of (judged_lines f r work (length reports) (meaning_of byte)) Fine ≡ Fine
-  early_judged h = go (first_of (judged_lines f r work (length reports) (meaning_of byte)) Fine) refl
+  pub early_judged : event_judged f r work reports byte ≡ fine → first_of (judged_lines f r work (length reports) (meaning_of byte)) fine ≡ fine
+  early_judged h = go (first_of (judged_lines f r work (length reports) (meaning_of byte)) fine) refl
     where
-      go : (j : Judged) → first_of (judged_lines f r work (length reports) (meaning_of byte)) Fine ≡ j → j ≡ Fine
-      go Fine e = refl
-      go (Refused why) e = absurd (not_fine (sym (judged_stands f r work (length reports) (meaning_of byte) (event_after f r work byte) why e) ∙ h))
+      go : (j : Judged) → first_of (judged_lines f r work (length reports) (meaning_of byte)) fine ≡ j → j ≡ fine
+      go (Ok done) e = refl
+      go (Err why) e = absurd (not_fine (sym (judged_stands f r work (length reports) (meaning_of byte) (event_after f r work byte) why e) ∙ h))
 
   -- What it then answers and leaves.
-  pub taken_answer : event_judged f r work reports byte ≡ Fine → event_answer f r work reports byte ≡ taken_of (event_after f r work byte).next (length (event_after f r work byte).reports)
+  pub taken_answer : event_judged f r work reports byte ≡ fine → event_answer f r work reports byte ≡ taken_of (event_after f r work byte).next (length (event_after f r work byte).reports)
   taken_answer e = ap (λ j. answer_of j r (event_after f r work byte)) e
 
-  pub taken_work : event_judged f r work reports byte ≡ Fine → event_work f r work reports byte ≡ (event_after f r work byte).work
+  pub taken_work : event_judged f r work reports byte ≡ fine → event_work f r work reports byte ≡ (event_after f r work byte).work
   taken_work e = ap (λ j. unless j work (event_after f r work byte).work) e
 
-  pub taken_reports : event_judged f r work reports byte ≡ Fine → event_reports f r work reports byte ≡ on_front (event_after f r work byte).reports reports
+  pub taken_reports : event_judged f r work reports byte ≡ fine → event_reports f r work reports byte ≡ on_front (event_after f r work byte).reports reports
   taken_reports e = ap (λ j. unless j reports (on_front (event_after f r work byte).reports reports)) e
 
-  pub taken_passed : event_judged f r work reports byte ≡ Fine → Passed f r work (length reports)
+  pub taken_passed : event_judged f r work reports byte ≡ fine → Passed f r work (length reports)
   taken_passed e = passed f work r (length reports) (meaning_of byte) (early_judged e)
 
   -- Demand 2, of one step.
@@ -110,14 +109,14 @@ module _ (f : List ℕ) (s : Watching) (c : Call) where
       }
 
   -- After a refused call: what it had.
-  pub refused_call : (why : Refusal) → judged_of ≡ Refused why → called f s c ≡ s
+  pub refused_call : (why : Refusal) → judged_of ≡ Err why → called f s c ≡ s
   refused_call why e = ap (λ j. called_by j (given f s c)) e
 
-  pub none_given : (why : Refusal) → judged_of ≡ Refused why → given f s c ≡ []
+  pub none_given : (why : Refusal) → judged_of ≡ Err why → given f s c ≡ []
   none_given why e = ap (λ j. take (count_of (answer_of j s.now after_of).outcome) (event_reports f s.now s.work c.lent c.byte)) e
 
   -- After a taken call the caller reads the reports of the step.
-  pub given_is : judged_of ≡ Fine → given f s c ≡ after_of.reports
+  pub given_is : judged_of ≡ fine → given f s c ≡ after_of.reports
   given_is e =
       let xs = after_of.reports in
       ap (λ (x : Answer). take (count_of x.outcome) (event_reports f s.now s.work c.lent c.byte)) (taken_answer f s.now s.work c.lent c.byte e)
@@ -125,6 +124,6 @@ module _ (f : List ℕ) (s : Watching) (c : Call) where
       ∙ take_at xs (drop (length xs) c.lent) (length xs) refl
 
   -- And has what the step makes.
-  pub taken_call : judged_of ≡ Fine
+  pub taken_call : judged_of ≡ fine
       → called f s c ≡ having s (longer s.stream (meaning_of c.byte)) after_of
-  taken_call e = ap (λ j. called_by j (given f s c)) e ∙ ap (λ words. called_by Fine words) (given_is e)
+  taken_call e = ap (λ j. called_by j (given f s c)) e ∙ ap (λ words. called_by fine words) (given_is e)

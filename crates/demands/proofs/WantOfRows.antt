@@ -18,8 +18,7 @@ use Rattle.answers.specs.declared.Event.TheVariants.{Unknown}
 use Rattle.answers.specs.declared.Refusal.TheVariants as why
 use Rattle.answers.specs.Bytes.{meaning_of}
 use Rattle.answers.specs.Answers.{refusal_rank}
-use Rattle.judge.specs.declared.Judged.TheVariants.{Fine}
-use Rattle.judge.specs.Judging.{judged_rank}
+use Rattle.judge.specs.Judging.{fine, judged_rank}
 use Rattle.engine.specs.Calls.{After, rows_lines}
 use Rattle.engine.proofs.Numbers.{event_exactly}
 use Rattle.following.specs.Following.{memory_after, positions_of}
@@ -35,7 +34,7 @@ use Rattle.demands.proofs.Alive.{alive_going, alive_over, alive_same}
 
 module _ (f : List ℕ) (rows depth : ℕ) (s : Watching) (follow : Follows f rows depth s) (c : Call) where
   early_free : ((i : ℕ) → i + 1 < refusal_rank why.Rows → applies_at (lines_of f s c) i ≡ false) → Early f rows depth s follow c
-  early_free h = none_taken judged_rank Fine (first_lines f s c) (λ i. go i (dec_le 15 i))
+  early_free h = none_taken judged_rank fine (first_lines f s c) (λ i. go i (dec_le 15 i))
     where
       go : (i : ℕ) → Dec (15 ≤ i) → applies_at (first_lines f s c) i ≡ false
       go i (yes l) = past_applies (first_lines f s c) i l

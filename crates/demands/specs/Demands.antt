@@ -3,6 +3,7 @@
 --
 -- f is the table file. What is said of a watch s is asked of every watch that a taken start and any calls lead to; what is said
 -- of a call c, of every next call.
+use Rattle.std.specs.Prelude.{Err}
 use Rattle.std.specs.Prelude.{Bool, true, false, not, List, [], ◌∷◌, map, ◌↔◌, ◌⊎◌, ◌≡◌, ℕ, ◌+◌, ◌<◌, T, eqb, ltb, length, get_or, replicate}
 use Rattle.meaning.specs.Table.{Table, table_of}
 use Rattle.meaning.specs.Streams.{positions, open_after, Prefix, Whole, Selects}
@@ -19,7 +20,6 @@ use Rattle.order.specs.Order.{word_right}
 use Rattle.answers.specs.declared.Record.{Record}
 use Rattle.answers.specs.declared.Event.{Event}
 use Rattle.answers.specs.declared.Event.TheVariants.{Open, Point, Close, CloseOf, End, Unknown}
-use Rattle.answers.specs.declared.Outcome.TheVariants.{Refused}
 use Rattle.answers.specs.declared.Refusal.TheVariants as why
 use Rattle.answers.specs.Record.{no_record}
 use Rattle.answers.specs.Bytes.{meaning_of}
@@ -56,9 +56,9 @@ pub record Demand1 (f : List ℕ) (r : Record) (work reports : List ℕ) (byte :
   pub answered : outcome_rank (event_answer f r work reports byte).outcome < 17
   -- Refusal 7 carries the place of the first word out of order; the length of memory where the record by itself is.
   pub place :
-      (i : ℕ) → (event_answer f r work reports byte).outcome ≡ Refused (why.Order i) → FaultAt r (table_of f).states (table_of f).labels work i
+      (i : ℕ) → (event_answer f r work reports byte).outcome ≡ Err (why.Order i) → FaultAt r (table_of f).states (table_of f).labels work i
   -- Refusals 3 and 5 carry the first wrong place in file order.
-  pub named : (w : file.Refusal) → (event_answer f r work reports byte).outcome ≡ Refused (why.Table w) → Named f w
+  pub named : (w : file.Refusal) → (event_answer f r work reports byte).outcome ≡ Err (why.Table w) → Named f w
   -- Refused, it gives its record back and 0 as the number of reports, and leaves memory and reports as they were.
   pub kept :
       0 < outcome_number (event_answer f r work reports byte).outcome →
@@ -76,7 +76,7 @@ pub record StartDemand1 (f : List ℕ) (rows depth : ℕ) (work : List ℕ) : Ty
   pub taken_exactly :
       (outcome_number (start_answer f rows depth work).outcome ≡ 0) ↔ ((i : ℕ) → applies_at (start_lines f rows depth (length work)) i ≡ false)
   pub answered : outcome_rank (start_answer f rows depth work).outcome < 7
-  pub named : (w : file.Refusal) → (start_answer f rows depth work).outcome ≡ Refused (why.Table w) → Named f w
+  pub named : (w : file.Refusal) → (start_answer f rows depth work).outcome ≡ Err (why.Table w) → Named f w
   -- Refused, it gives a record of zeros and leaves memory as it was.
   pub kept :
       0 < outcome_number (start_answer f rows depth work).outcome →

@@ -1,16 +1,15 @@
 -- A watched stream: a start call, and then any calls with one table, each with the record and the memory that the call before
 -- it gave back, refused calls among them. Definitions only: the calls' answers are those of their contracts.
+use Rattle.std.specs.Prelude.{Ok, Err}
 use Rattle.std.specs.Prelude.{Bool, true, false, List, [], ◌∷◌, ◌++◌, ◌≡◌, ℕ, length, take}
+use Rattle.judge.specs.Judging.{Judged}
 use Rattle.meaning.specs.Refusals.{Line}
 use Rattle.meaning.specs.Streams as stream
 use Rattle.answers.specs.declared.Record.{Record}
 use Rattle.answers.specs.declared.Event.{Event}
 use Rattle.answers.specs.declared.Event.TheVariants.{Open, Point, Close, CloseOf, End, Unknown}
-use Rattle.answers.specs.declared.Outcome.{Outcome}
-use Rattle.answers.specs.declared.Outcome.TheVariants.{Taken, Refused}
 use Rattle.answers.specs.Bytes.{meaning_of}
-use Rattle.answers.specs.Answers.{outcome_number}
-use Rattle.judge.specs.declared.Judged.{Judged}
+use Rattle.answers.specs.Answers.{Outcome, outcome_number}
 use Rattle.engine.specs.Calls.{lines, event_answer, event_work, event_reports, start_answer, start_work}
 
 -- What a caller hands to an event call beside the table, the record and work memory: the byte, and the words of the reports
@@ -43,13 +42,13 @@ pub record Watching : Type 0 where
 
 -- The number of reports that an answer carries.
 abbrev pub count_of : Outcome → ℕ
-count_of (Taken reports) = reports
-count_of (Refused why) = 0
+count_of (Ok reports) = reports
+count_of (Err why) = 0
 
 -- The new value where the call was taken, and else the old one.
 abbrev pub on_taken : {A : Type 0} → Outcome → A → A → A
-on_taken (Taken reports) old new = new
-on_taken (Refused why) old new = old
+on_taken (Ok reports) old new = new
+on_taken (Err why) old new = old
 
 ---------------------------------------------------------------- the start call
 

@@ -1,6 +1,7 @@
 -- The words of a memory and of the labels of what is open: as many as work memory has, they stand for both, and they are in
 -- order. Assumes rows of one depth whose states are states of the table, as many as there is room for, as many labels, and
 -- for the order positions that rise and labels of the table.
+use Rattle.std.specs.Prelude.{None, Some}
 use mathlib.Core.Path.{◌≡◌, refl, sym, ap, ◌∙◌, subst}
 use mathlib.Core.Bool.{Bool, true, false, cond, ◌&&◌, true≢false}
 use mathlib.Core.List.{List, [], ◌∷◌, ◌++◌, append_assoc}
@@ -25,7 +26,6 @@ use Rattle.places.proofs.Good.{AllGood, helds_first, all_length, later_rows, hel
 use Rattle.places.proofs.Good as good
 use Rattle.places.proofs.Labels.{open_words_length, labels_length, open_back}
 use Rattle.order.specs.declared.Shape.{Shape}
-use Rattle.order.specs.declared.Place.TheVariants.{Fine, At}
 use Rattle.order.specs.Order.{position_right, cell_right, label_right, labels_from, word_right, first_from, first_fault}
 use Rattle.following.specs.Lists.{Rising}
 use Rattle.following.specs.Lists as lists
@@ -34,9 +34,9 @@ use Rattle.following.specs.Following.{positions_of}
 ---------------------------------------------------------------- tests, zeros and rising numbers
 
 -- Where every test passes, none is found that fails.
-all_fine : (right : ℕ → Bool) → ((i : ℕ) → right i ≡ true) → (n i : ℕ) → first_from right i n ≡ Fine
+all_fine : (right : ℕ → Bool) → ((i : ℕ) → right i ≡ true) → (n i : ℕ) → first_from right i n ≡ None
 all_fine right h n i =
-    ⊎_elim (λ g. g.0) (λ g. absurd (true≢false (sym (h g.place) ∙ g.first.fails))) (decided At Fine right n i)
+    ⊎_elim (λ g. g.0) (λ g. absurd (true≢false (sym (h g.place) ∙ g.first.fails))) (decided Some None right n i)
 
 cond_true : (b : Bool) {x y : Bool} → (b ≡ true → x ≡ true) → (b ≡ false → y ≡ true) → cond b x y ≡ true
 cond_true true h g = h refl
@@ -148,7 +148,7 @@ module _ (s : Shape) (words ps : List ℕ) (rises : Rising s.positions 0 ps) (lo
       let at : labels_from s + (i - labels_from s) ≡ i = omega (arith, ltb-false i (labels_from s) e) in
       ap (λ (j : ℕ). label_right s (label_level (i - labels_from s)) (get_or words j 0)) (sym at) ∙ labels (i - labels_from s))
 
-  words_fine : first_fault s words ≡ Fine
+  words_fine : first_fault s words ≡ None
   unfolding first_fault
   words_fine = all_fine (word_right s words) right_word (length words) 0
 
@@ -198,7 +198,7 @@ module _ (n rows depth d : ℕ) (m : Memory) (small : depth ≤ 40) (deep : d �
 -- there are levels, are in order.
 pub in_order : (n rows depth d p k : ℕ) (m : Memory) (o : List ℕ) → depth ≤ 40 → d ≤ depth → length m.alive ≤ rows → AllGood n d (rows_of m) →
     Rising p 0 (positions_of m.alive) → length o ≡ d → AllBelow k o →
-    first_fault (record { rows = rows + 1; allowed = depth; used = length m.alive + 1; depth = d; states = n; positions = p; labels = k }) (work_words rows depth m o) ≡ Fine
+    first_fault (record { rows = rows + 1; allowed = depth; used = length m.alive + 1; depth = d; states = n; positions = p; labels = k }) (work_words rows depth m o) ≡ None
 in_order n rows depth d p k m o small deep fits all rises open-are labelled =
     let w : ℕ = row_length depth in
     let xs : List ℕ = all_words w (rows_of m) in
@@ -228,7 +228,7 @@ in_order n rows depth d p k m o small deep fits all rises open-are labelled =
 
 -- And so are zeros, where no row is in use and no level is open.
 pub zeros_in_order : (n rows depth p k i : ℕ) →
-    first_fault (record { rows = rows + 1; allowed = depth; used = 0; depth = 0; states = n; positions = p; labels = k }) (replicate i 0) ≡ Fine
+    first_fault (record { rows = rows + 1; allowed = depth; used = 0; depth = 0; states = n; positions = p; labels = k }) (replicate i 0) ≡ None
 zeros_in_order n rows depth p k i =
     let zeros : List ℕ = replicate i 0 in
     let zero-at : (j : ℕ) → get_or zeros j 0 ≡ 0 = λ j. past_words [] i j (omega arith) in

@@ -1,4 +1,5 @@
 -- What a caller in C or Rust may rely on. Assumes nothing.
+use Rattle.std.specs.Prelude.{Ok, Err}
 use mathlib.Core.Bool.{Bool, true, false, cond, not, ◌&&◌, ◌||◌}
 use mathlib.Core.List.{List, [], ◌∷◌}
 use mathlib.Core.Logic.{◌↔◌}
@@ -12,13 +13,9 @@ use Rattle.meaning.specs.Refusals.{first_of, applies_at}
 use Rattle.meaning.proofs.Refusals.{taken_exactly, none_taken}
 use Rattle.table.specs.File.{is_short, header_right, contents_right, length_right, bodies_right}
 use Rattle.answers.specs.declared.Record.{Record}
-use Rattle.answers.specs.declared.Outcome.{Outcome}
-use Rattle.answers.specs.declared.Outcome.TheVariants.{Taken, Refused}
 use Rattle.answers.specs.declared.Refusal.TheVariants as why
-use Rattle.answers.specs.Answers.{outcome_number}
-use Rattle.judge.specs.declared.Judged.{Judged}
-use Rattle.judge.specs.declared.Judged.TheVariants as judged
-use Rattle.judge.specs.Judging.{judged_number, record_right, sizes_right}
+use Rattle.answers.specs.Answers.{Outcome, outcome_number}
+use Rattle.judge.specs.Judging.{Judged, judged_number, record_right, sizes_right}
 use Rattle.engine.specs.Calls.{event_judged, event_after, event_work, event_reports, answer_of}
 use Rattle.engine.proofs.Numbers as engine
 use Rattle.link.specs.Words.{record_words, record_in, answer_words}
@@ -41,8 +38,8 @@ both_lengths : (words answer : List ℕ) → length words ≡ 6 → length answe
 both_lengths words answer six four = rw (eq-eqb (length words) 6 six, eq-eqb (length answer) 4 four)
 
 old_words : (o : Outcome) (next : Record) (words : List ℕ) → 0 < outcome_number o → next_words o next words ≡ words
-old_words (Taken reports) next words h = absurd (omega (arith, h))
-old_words (Refused reason) next words h = refl
+old_words (Ok reports) next words h = absurd (omega (arith, h))
+old_words (Err reason) next words h = refl
 
 -- A record that counts too many positions is by itself out of order.
 too_many : (r : Record) → 2147483647 < r.positions → record_right r ≡ false
@@ -97,7 +94,7 @@ module _ (f words work reports : List ℕ) (byte : ℕ) (answer : List ℕ) wher
 
   -- 7, where the record by itself is out of order.
   abbrev order : Judged
-  order = judged.Refused (why.Order (length work))
+  order = Err (why.Order (length work))
 
   one_to_seven : OneToSeven (first_of (first_six f words work reports) order)
   one_to_seven =
@@ -121,7 +118,7 @@ module _ (f words work reports : List ℕ) (byte : ℕ) (answer : List ℕ) wher
     -- A sixth word above 1: the number is that of the first of 1 to 6 that applies, and 7 where none does.
     pub sixth_number :
         event_number f words work reports byte answer
-        ≡ judged_number (first_of (first_six f words work reports) (judged.Refused (why.Order (length work))))
+        ≡ judged_number (first_of (first_six f words work reports) (Err (why.Order (length work))))
     sixth_number =
         rw fits
         (engine.answer_number (event_judged f (record_in words) work reports byte) (record_in words) (event_after f (record_in words) work byte)

@@ -1,15 +1,12 @@
 -- What the two linked calls return, and what they leave in each lent slice, for any input: `fitting` slices have what the
 -- watch's own call answers, put in words; others have 100, and nothing is written. Definitions only.
-use Rattle.std.specs.Prelude.{Bool, cond, not, ◌&&◌, ◌||◌, List, [], ◌∷◌, ◌++◌, ℕ, ◌+◌, eqb, ltb, length, get_or}
+use Rattle.std.specs.Prelude.{Ok, Err, Bool, cond, not, ◌&&◌, ◌||◌, List, [], ◌∷◌, ◌++◌, ℕ, ◌+◌, eqb, ltb, length, get_or}
 use Rattle.meaning.specs.Refusals.{Line}
 use Rattle.answers.specs.declared.Record.{Record}
 use Rattle.answers.specs.declared.Answer.{Answer}
-use Rattle.answers.specs.declared.Outcome.{Outcome}
-use Rattle.answers.specs.declared.Outcome.TheVariants.{Taken, Refused}
 use Rattle.answers.specs.declared.Refusal.TheVariants as why
-use Rattle.answers.specs.Answers.{outcome_number}
-use Rattle.judge.specs.declared.Judged.{Judged}
-use Rattle.judge.specs.Judging.{refuses, table_lines, sizes_right}
+use Rattle.answers.specs.Answers.{Outcome, outcome_number}
+use Rattle.judge.specs.Judging.{Judged, refuses, table_lines, sizes_right}
 use Rattle.engine.specs.Calls.{start_answer, start_work, event_answer, event_work, event_reports}
 use Rattle.link.specs.Words.{record_words, record_in, answer_words}
 
@@ -39,8 +36,8 @@ start_leaves_answer f rows depth work words answer =
 
 -- The words of the next record where the event is taken, and the given ones where it is refused.
 abbrev pub next_words : Outcome → Record → List ℕ → List ℕ
-next_words (Taken reports) next words = record_words next
-next_words (Refused reason) next words = words
+next_words (Ok reports) next words = record_words next
+next_words (Err reason) next words = words
 
 -- What the watch answers to an event for the record that the words stand for.
 abbrev pub answered : List ℕ → List ℕ → List ℕ → List ℕ → ℕ → Answer

@@ -1,10 +1,8 @@
 -- The words by which a record and an outcome are lent to programs in C and Rust. Definitions only.
-use Rattle.std.specs.Prelude.{cond, List, [], ◌∷◌, ℕ, eqb, ltb, get_or}
+use Rattle.std.specs.Prelude.{Ok, Err, cond, List, [], ◌∷◌, ℕ, eqb, ltb, get_or}
 use Rattle.answers.specs.declared.Record.{Record}
-use Rattle.answers.specs.declared.Outcome.{Outcome}
-use Rattle.answers.specs.declared.Outcome.TheVariants.{Taken, Refused}
 use Rattle.answers.specs.declared.Place.{Place}
-use Rattle.answers.specs.Answers.{nowhere, place_of}
+use Rattle.answers.specs.Answers.{Outcome, nowhere, place_of}
 
 -- A record as six words: rows, depth allowed, depth now, alive, positions read, and 1 where finished, else 0.
 abbrev pub record_words : Record → List ℕ
@@ -28,5 +26,5 @@ abbrev pub four_words : ℕ → Place → List ℕ
 four_words reports place = reports ∷ place.word ∷ place.part ∷ place.inside ∷ []
 
 abbrev pub answer_words : Outcome → List ℕ
-answer_words (Taken reports) = four_words reports nowhere
-answer_words (Refused reason) = four_words 0 (place_of reason)
+answer_words (Ok reports) = four_words reports nowhere
+answer_words (Err reason) = four_words 0 (place_of reason)

@@ -32,7 +32,7 @@ fn record_in(words: &[u64]) -> Record
         allowed: words[1],
         depth: words[2],
         alive: words[3],
-        positions: positions,
+        positions,
         finished: finished == 1,
     }
 }
@@ -41,12 +41,14 @@ fn put_record(words: &mut [u64], r: Record)
     requires { length words.old ≡ 6 }
     ensures { words.new ≡ record_words r }
 {
-    words[0] = r.rows;
-    words[1] = r.allowed;
-    words[2] = r.depth;
-    words[3] = r.alive;
-    words[4] = r.positions;
-    words[5] = r.finished as u64;
+    words.copy_from_slice(&[
+        r.rows,
+        r.allowed,
+        r.depth,
+        r.alive,
+        r.positions,
+        u64::from(r.finished),
+    ]);
 }
 
 // The record after an event: a refused one leaves it.
@@ -54,7 +56,7 @@ fn put_next(words: &mut [u64], outcome: Outcome, next: Record)
     requires { length words.old ≡ 6 }
     ensures { words.new ≡ next_words outcome next words.old }
 {
-    if let Outcome::Taken(_) = outcome {
+    if outcome.is_ok() {
         put_record(words, next);
     }
 }
@@ -64,10 +66,7 @@ fn put_four(words: &mut [u64], reports: u64, place: Place)
     requires { length words.old ≡ 4 }
     ensures { words.new ≡ four_words reports place }
 {
-    words[0] = reports;
-    words[1] = place.word;
-    words[2] = place.part;
-    words[3] = place.inside;
+    words.copy_from_slice(&[reports, place.word, place.part, place.inside]);
 }
 
 fn put_answer(words: &mut [u64], outcome: Outcome)
@@ -75,8 +74,8 @@ fn put_answer(words: &mut [u64], outcome: Outcome)
     ensures { words.new ≡ answer_words outcome }
 {
     match outcome {
-        Outcome::Taken(reports) => put_four(words, reports, Place::none()),
-        Outcome::Refused(why) => put_four(words, 0, why.place()),
+        Ok(reports) => put_four(words, reports, Place::none()),
+        Err(why) => put_four(words, 0, why.place()),
     }
 }
 
@@ -98,10 +97,9 @@ pub fn watch_start(
         return 100;
     }
     let answered = engine::start(table, rows, depth, work);
-    let outcome = answered.outcome;
     put_record(record, answered.next);
-    put_answer(answer, outcome);
-    outcome.number()
+    put_answer(answer, answered.outcome);
+    answered.number()
 }
 
 // One event byte: returns the same.
@@ -123,8 +121,7 @@ pub fn watch_event(
         return 100;
     }
     let answered = engine::event(table, record_in(record), work, reports, byte);
-    let outcome = answered.outcome;
-    put_next(record, outcome, answered.next);
-    put_answer(answer, outcome);
-    outcome.number()
+    put_next(record, answered.outcome, answered.next);
+    put_answer(answer, answered.outcome);
+    answered.number()
 }
