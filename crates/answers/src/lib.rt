@@ -116,7 +116,7 @@ impl From<u8> for Event {
     }
 }
 
-// The place that a refusal names, in three numbers; 0 where it names none.
+// The place that a refusal names, in three numbers; 0 where it names none. No enum, since it crosses to C as three words.
 #[derive(Clone, Copy, Debug, PartialEq, Eq)]
 pub struct Place {
     // 7: the word of work memory, from 0.
@@ -168,7 +168,7 @@ pub enum Refusal {
 }
 
 impl Refusal {
-    // Its number, 01's or that of a later request. The order of checking is another one.
+    // Its number, by which C and the programs' lines name it. The order of checking is another one.
     pub fn number(self) -> u64
         ensures { result ≡ refusal_number self }
     {

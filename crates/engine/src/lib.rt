@@ -1,7 +1,8 @@
 // The watch: the start call and the call for one event byte.
 //
 // Neither assumes anything of its caller: any table, numbers, record, memory and byte are taken or refused by number. A
-// refused event gives its record back, a refused start a record of zeros, and neither writes to lent memory.
+// refused event gives its record back, a refused start a record of zeros, and neither writes to lent memory. What an event
+// to be taken needs of record and memory stays a clause (`Ready`, `Can`): the record is any caller's, and the memory is lent.
 #![tactic(auto)]
 
 ghost use Rattle.std.specs.Prelude.{◌≡◌, ◌<◌, ◌≤◌, length};

@@ -1,7 +1,7 @@
 // All refusals but that for want of rows: judging what a call was given, before anything is done. Nothing is written.
 //
 // `judge`, `judge_start` and `judge_lent` take any table, record, words and event. `judge_event` is what `judge` asks last, and
-// stands on what it asked before.
+// stands on what it asked before: a clause says what, since those that ask first take any record and any words.
 #![tactic(auto)]
 
 ghost use Rattle.std.specs.Prelude.{◌≡◌, ℕ, ◌+◌, ◌≤◌, length};

@@ -2,7 +2,8 @@
 // words that are lent.
 //
 // Functions here ask for words whose first n rows are rows (`RowsIn`). Each leaves the words of the rows that the rules
-// name, and the words past them as they were.
+// name, and the words past them as they were. w, d and n stay three numbers: an event counts one row more, changes the
+// newest level between two calls, and lends the words with row 0 or without.
 #![tactic(auto)]
 
 ghost use Rattle.std.specs.Prelude.{◌≡◌, not, ◌++◌, map, ◌+◌, ◌*◌, ◌<◌, ◌≤◌, length, take, drop};

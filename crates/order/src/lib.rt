@@ -7,7 +7,8 @@ ghost use Rattle.std.specs.Prelude.{◌≡◌, ℕ, ◌+◌, ◌*◌, ◌<◌, �
 ghost use Rattle.places.specs.Places.{level_length, row_length, row_at, state_at};
 ghost use Rattle.order.specs.Order.{cell_right, label_right, labels_from, word_right, first_from, first_fault};
 
-// What the words are judged by.
+// What the words are judged by. The bounds on its numbers stand in the clauses, since the definitions judge by the shape of
+// any record (`shape_of`).
 #[derive(Clone, Copy, Debug, PartialEq, Eq)]
 pub struct Shape {
     // How many rows memory has, row 0 among them, and how many levels each.

@@ -1,7 +1,8 @@
 // Where a word stands in work memory: the one place in code that computes it.
 //
 // Rows and levels are counted from 0. A row's words are counted from its own first word, the labels' words from the first
-// of them, the memory's from row 0.
+// of them, the memory's from row 0. Each function asks for its own bound alone: a type for a level or a row would be undone
+// at the next sum.
 #![tactic(auto)]
 
 ghost use Rattle.std.specs.Prelude.{◌≡◌, ◌<◌, ◌≤◌};
@@ -22,7 +23,8 @@ pub fn state_at(level: usize) -> usize
     LEVELS + LEVEL_LENGTH * level
 }
 
-// Where the selecting set of a level stands in its row.
+// Where the selecting set of a level stands in its row. Each of a level's three words has a name of its own, so that no
+// caller counts them.
 pub fn selecting_at(level: usize) -> usize
     requires { level ≤ 41 }
     ensures { result ≡ selecting_at level }

@@ -1,7 +1,8 @@
 // One row of work memory: its steps by the rules, what it would be after a step, and its verdict.
 //
 // A row is lent as the part of work memory that it is. Functions here ask for words that are a row (`RowIn`); each leaves
-// the words of the row that the rule names.
+// the words of the row that the rule names. That stays a clause: a type round the lent words would have to be made and
+// undone at each call, and its newest level changes with each event.
 #![tactic(auto)]
 
 ghost use Rattle.std.specs.Prelude.{◌≡◌, not, ◌+◌, ◌<◌, ◌≤◌, length, get_or};

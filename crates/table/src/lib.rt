@@ -22,6 +22,7 @@ pub enum Field {
 }
 
 impl Field {
+    // Its number, by which C names it.
     pub fn number(self) -> u64
         ensures { result ≡ field_number self }
     {
@@ -49,7 +50,7 @@ pub enum Refusal {
 }
 
 impl Refusal {
-    // 01's number.
+    // Its number, by which C and the programs' lines name it.
     pub fn number(self) -> u64
         ensures { result ≡ refusal_number self }
     {

@@ -1,5 +1,4 @@
 -- `judge_event` meets its contract, event by event. Assumes nothing.
-use borrow.Author.Tests.{lt-ltb, le-ltb, eq-eqb, ne_eqb}
 use Rattle.judge.specs.Judging.{newest_word}
 use Rattle.judge.proofs.judge_event.Goals as goal
 

@@ -1,6 +1,5 @@
 -- `add_row` meets its contract. Assumes nothing.
-use mathlib.Core.Path.{◌≡◌, ◌∙◌}
-use mathlib.Core.Logic.{inr}
+use mathlib.Core.Path.{◌≡◌}
 use mathlib.Core.List.{List}
 use Prim.Native.Nat.{ℕ, ◌+◌, ◌*◌, ◌≤◌}
 use native.Mathlib.Nat.{add-sub_cancel_left}
@@ -9,8 +8,8 @@ use lib.ListN.{length}
 use Rattle.bodies.specs.Automaton.{automaton}
 use Rattle.meaning.specs.Rows.{mark_row}
 use Rattle.places.specs.Memory.{Held, row_in, row_words}
-use Rattle.places.proofs.Rows.{next_row, past_first, part_length, put_length}
-use Rattle.memory.proofs.Turns.{copied_length, copied_row, copied_end}
+use Rattle.places.proofs.Rows.{next_row}
+use Rattle.memory.proofs.Turns.{copied_row, copied_end}
 use mathlib.Core.Path.{subst}
 use lib.ListN.{take}
 use lib.ListN.{drop}

@@ -1,17 +1,16 @@
 -- `close_up` meets its contract. Assumes nothing.
 use mathlib.Core.Path.{◌≡◌, sym, ◌∙◌}
-use mathlib.Core.Logic.{inl}
 use mathlib.Core.Bool.{not}
 use Prim.Native.Nat.{◌+◌, ◌-◌, ◌*◌, ◌≤◌}
-use native.Mathlib.Nat.{add-sub_cancel_left, mul-le-mul_right}
+use native.Mathlib.Nat.{add-sub_cancel_left}
 use native.Mathlib.Omega.{arith}
 use lib.ListN.{length, drop}
 use lib.Seq.{paste}
 use Rattle.places.specs.Places.{row_of}
 use Rattle.places.specs.Memory.{row_in}
 use Rattle.rows.specs.Steps.{is_decided}
-use Rattle.places.proofs.Rows.{row_fits, part_length, put_length}
-use Rattle.memory.proofs.Turns.{closed_start, closed_yes, closed_no, closed_end, copied_onto, row_in_lem, row_words_lem}
+use Rattle.places.proofs.Rows.{row_fits}
+use Rattle.memory.proofs.Turns.{closed_yes, closed_no, copied_onto, row_words_lem}
 use Rattle.memory.proofs.close_up.Goals as goal
 use Rattle.memory.proofs.close_up.Goals.{then-is_left, then-left-r, else-left-r, else-is_left}
 

@@ -1,7 +1,7 @@
 -- `count_alive` meets its contract. Assumes nothing.
-use mathlib.Core.Path.{◌≡◌, refl, sym, ap, ◌∙◌}
+use mathlib.Core.Path.{◌≡◌, sym, ap, ◌∙◌}
 use mathlib.Core.Bool.{not}
-use Prim.Native.Nat.{◌+◌, ◌*◌, ◌≤◌}
+use Prim.Native.Nat.{◌*◌}
 use native.Mathlib.Nat.{add-sub_cancel_left}
 use native.Mathlib.Omega.{arith}
 use lib.ListN.{length}
@@ -10,8 +10,8 @@ use Rattle.places.specs.Memory.{Held, row_in, helds_in}
 use Rattle.rows.specs.Steps.{on_row, is_decided}
 use Rattle.rows.specs.Rules.{step_by}
 use Rattle.reports.specs.Reports.{left_over}
-use Rattle.places.proofs.Rows.{each_map, row_fits}
-use Rattle.memory.proofs.Turns.{counted_start, counted_yes, counted_no, row_in_lem, row_can}
+use Rattle.places.proofs.Rows.{each_map}
+use Rattle.memory.proofs.Turns.{counted_yes, counted_no}
 use Rattle.memory.proofs.count_alive.Goals as goal
 use Rattle.memory.proofs.count_alive.Goals.{then-stays_after, else-stays_after}
 

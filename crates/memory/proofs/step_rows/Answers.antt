@@ -5,12 +5,11 @@ use Prim.Native.Nat.{ℕ, ◌+◌, ◌*◌, ◌≤◌}
 use native.Mathlib.Nat.{add-sub_cancel_left}
 use native.Mathlib.Omega.{arith}
 use lib.ListN.{length, drop}
-use Rattle.bodies.specs.Automaton.{automaton}
-use Rattle.places.specs.Memory.{Held, helds_in, row_words}
-use Rattle.rows.specs.Steps.{event_of, on_row}
+use Rattle.places.specs.Memory.{helds_in, row_words}
+use Rattle.rows.specs.Steps.{on_row}
 use Rattle.rows.specs.Rules.{states_by, step_by}
 use Rattle.places.proofs.Rows.{each_map, row_fits, part_length}
-use Rattle.memory.proofs.Turns.{stepped_start, stepped_rest, stepped_next, row_in_lem, row_can}
+use Rattle.memory.proofs.Turns.{stepped_rest, stepped_next, row_in_lem}
 use Rattle.memory.proofs.step_rows.Goals as goal
 
 -- A row that is still to step stands as it stood.

@@ -1,8 +1,5 @@
 -- `level_fault` meets its contract. Each call of `cell_right` is one turn of the search.
-use Prim.Native.Nat.{◌+◌, ◌*◌, ◌≤◌}
 use native.Mathlib.Omega.{arith}
-use lib.ListN.{length}
-use Rattle.order.proofs.Cells.{row_fits}
 use Rattle.order.proofs.Levels.{state_wrong, selecting_wrong, rejecting_wrong, level_right}
 use Rattle.order.proofs.level_fault.Goals as goal
 

@@ -1,19 +1,18 @@
 -- `rows_fault` meets its contract. The invariant of either loop: what is left of the search is the whole search.
-use Rattle.std.specs.Prelude.{Option, None, Some}
+use Rattle.std.specs.Prelude.{None, Some}
 use mathlib.Core.Path.{◌≡◌, refl, sym, ap, subst, ◌∙◌}
 use mathlib.Core.List.{List}
 use mathlib.Core.Bool.{Bool}
 use Prim.Native.Nat.{ℕ, ◌+◌, ◌*◌, ◌<◌, ◌≤◌}
-use lib.ListN.{length}
 use native.Mathlib.Omega.{arith}
-use native.Mathlib.Nat.{mul-le-mul_right, zero-mul}
-use Rattle.meaning.proofs.Search.{Rest, rest_start, rest_end, rest_right, rest_wrong}
+use native.Mathlib.Nat.{mul-le-mul_right}
+use Rattle.meaning.proofs.Search.{Rest, rest_end, rest_right, rest_wrong}
 use Rattle.places.specs.Places.{row_at, row_length}
 use Rattle.order.specs.declared.Shape.{Shape}
 use Rattle.order.specs.Order.{word_right, cell_right, labels_from}
 use Rattle.order.proofs.Cells.{row_fits}
 use Rattle.places.proofs.Rows.{next_row}
-use Rattle.order.proofs.Levels.{level_place, level_search}
+use Rattle.order.proofs.Levels.{level_place}
 use Rattle.order.proofs.Search.{at_cell, rest_fine, rest_fault}
 use Rattle.order.proofs.rows_fault.Goals as goal
 

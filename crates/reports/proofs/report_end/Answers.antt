@@ -1,6 +1,5 @@
 -- `report_end` meets its contract.
 use mathlib.Core.Path.{sym, ◌∙◌}
-use native.Mathlib.Omega.{arith}
 use Rattle.bodies.specs.Automaton.{automaton}
 use Rattle.places.specs.Memory.{held_in}
 use Rattle.reports.proofs.Puts.{put_final, put_other}

@@ -1,13 +1,11 @@
 -- `report_ends` meets its contract. The invariant: the rows passed are reported, one report a row.
-use mathlib.Core.Path.{◌≡◌, refl}
-use Prim.Native.Nat.{◌+◌, ◌*◌, ◌≤◌}
+use mathlib.Core.Path.{refl}
+use Prim.Native.Nat.{◌+◌, ◌*◌}
 use native.Mathlib.Nat.{add-sub_cancel_left}
 use native.Mathlib.Omega.{arith}
-use lib.ListN.{length}
 use Rattle.bodies.specs.Automaton.{automaton}
-use Rattle.places.proofs.Rows.{row_fits}
 use Rattle.reports.specs.Reports.{end_report}
-use Rattle.reports.proofs.Puts.{reported_none, reported_more}
+use Rattle.reports.proofs.Puts.{reported_more}
 use Rattle.reports.proofs.report_ends.Goals as goal
 
 pub loop-r-preserved : goal.loop-r-preserved

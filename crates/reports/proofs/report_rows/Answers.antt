@@ -1,12 +1,9 @@
 -- `report_rows` meets its contract. The invariant: the rows passed are reported.
-use mathlib.Core.Path.{◌≡◌}
-use Prim.Native.Nat.{◌+◌, ◌*◌, ◌≤◌}
+use Prim.Native.Nat.{◌*◌}
 use native.Mathlib.Nat.{add-sub_cancel_left}
 use native.Mathlib.Omega.{arith}
-use lib.ListN.{length}
-use Rattle.places.proofs.Rows.{row_fits}
 use Rattle.reports.specs.Reports.{report_of}
-use Rattle.reports.proofs.Puts.{reported_none, reported_more, report_few}
+use Rattle.reports.proofs.Puts.{reported_more, report_few}
 use Rattle.reports.proofs.report_rows.Goals as goal
 
 pub loop-r-preserved : goal.loop-r-preserved

@@ -1,8 +1,6 @@
 -- `close_row` meets its contract. Assumes nothing.
-use native.Mathlib.Omega.{arith}
-use lib.ListN.{length-set}
 use Rattle.bodies.specs.Automaton.{automaton}
-use Rattle.rows.proofs.Laws.{state_in, close_words}
+use Rattle.rows.proofs.Laws.{close_words}
 use Rattle.rows.proofs.close_row.Goals as goal
 
 pub returns : goal.returns

@@ -1,8 +1,6 @@
 -- `mark_row` meets its contract. Assumes nothing.
-use native.Mathlib.Omega.{arith}
-use lib.ListN.{length-set}
 use Rattle.bodies.specs.Automaton.{automaton}
-use Rattle.rows.proofs.Laws.{marked_in, mark_words}
+use Rattle.rows.proofs.Laws.{mark_words}
 use Rattle.rows.proofs.mark_row.Goals as goal
 
 pub returns : goal.returns

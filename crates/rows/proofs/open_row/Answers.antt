@@ -1,8 +1,6 @@
 -- `open_row` meets its contract. Assumes nothing.
-use native.Mathlib.Omega.{arith}
-use lib.ListN.{length-set}
 use Rattle.bodies.specs.Automaton.{automaton}
-use Rattle.rows.proofs.Laws.{state_in, open_words_lem}
+use Rattle.rows.proofs.Laws.{open_words_lem}
 use Rattle.rows.proofs.open_row.Goals as goal
 
 pub returns : goal.returns

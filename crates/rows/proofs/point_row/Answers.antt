@@ -1,7 +1,6 @@
 -- `point_row` meets its contract. Assumes nothing.
-use native.Mathlib.Omega.{arith}
 use Rattle.bodies.specs.Automaton.{automaton}
-use Rattle.rows.proofs.Laws.{state_in, point_words}
+use Rattle.rows.proofs.Laws.{point_words}
 use Rattle.rows.proofs.point_row.Goals as goal
 
 pub returns : goal.returns

@@ -1,5 +1,5 @@
 -- `in_down` meets its contract. The invariant: the states of acc passed lead into x.
-use mathlib.Core.Path.{refl, ap, sym, ◌∙◌}
+use mathlib.Core.Path.{ap, sym, ◌∙◌}
 use Prim.Native.Nat.{ℕ}
 use Rattle.meaning.specs.Table.{Table}
 use native.Mathlib.Omega.{arith}
@@ -10,7 +10,6 @@ use Rattle.meaning.specs.Masks.{has}
 use Rattle.bodies.specs.Automaton.{automaton}
 use Rattle.meaning.proofs.Tests.{all_passed, all_fails}
 use Rattle.sets.proofs.Member.{no_state, leads_out}
-use Rattle.bodies.proofs.Fits.{apply_fits}
 use Rattle.sets.proofs.in_down.Goals as goal
 
 -- State p, if it is one of acc, is a state of the table that leads into x.

@@ -1,14 +1,13 @@
 -- `start_memory` meets its contract.
 use mathlib.Core.Path.{ap, ap₂, ◌∙◌}
 use mathlib.Core.List.{[]}
-use native.Mathlib.Omega.{arith}
-use lib.ListN.{set, length-set, replicate}
+use lib.ListN.{set, replicate}
 use Rattle.bodies.specs.Automaton.{automaton}
 use Rattle.meaning.specs.Masks.{accs_of}
 use Rattle.meaning.specs.Rows.{start_row}
 use Rattle.places.specs.Places.{state_at, selecting_at, rejecting_at, rows_length}
 use Rattle.places.specs.Memory.{rows_words}
-use Rattle.stepping.proofs.Whole.{start_words, start_room}
+use Rattle.stepping.proofs.Whole.{start_words}
 use Rattle.stepping.proofs.start_memory.Goals as goal
 
 pub returns : goal.returns

@@ -8,7 +8,7 @@ use Rattle.bodies.specs.Automaton.{automaton}
 use Rattle.places.specs.Places.{row_length}
 use Rattle.places.specs.Memory.{helds_in, all_words}
 use Rattle.rows.specs.Steps.{event_of, step_row, on_row}
-use Rattle.stepping.proofs.Kept.{moves_of, other_of, counted_of}
+use Rattle.stepping.proofs.Kept.{other_of, counted_of}
 use Rattle.stepping.proofs.Whole.{rest_part}
 use Rattle.stepping.proofs.Taken.{later_in, later_small}
 use Rattle.stepping.proofs.Ends.{report_fits, close_counts, close_words, close_reports, run_row, left_fits, row_fits, other_counts, other_words, other_reports}
