@@ -1,8 +1,24 @@
-// Tagged text (02, K1): what it is stands in specs/, what follows from it in proofs/. Here are the errors that reading and
-// writing it have in common.
+// Tagged text (02, K1): what it is stands in specs/, what follows from it in proofs/. Here are the classes of its bytes, and the
+// errors of reading and writing it.
 #![tactic(auto)]
 
 use std::fmt;
+
+// What a byte may be in a text.
+#[derive(Clone, Copy, Debug, PartialEq, Eq)]
+pub enum Class {
+    // What may stand between tags.
+    Blank,
+    Letter,
+    // A byte of a name that is no letter.
+    Name,
+    // "<", "/" and ">".
+    Less,
+    Slash,
+    Greater,
+    // A byte that is allowed nowhere.
+    Other,
+}
 
 // Why a text is refused at a place, in 02's order.
 #[derive(Clone, Copy, Debug, PartialEq, Eq)]
