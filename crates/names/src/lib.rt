@@ -5,7 +5,7 @@
 ghost use Rattle.std.specs.Prelude.{◌≡◌};
 ghost use Rattle.grammar.specs.Bytes.{class_of};
 ghost use Rattle.grammar.specs.Names.{good_names};
-ghost use Rattle.names.specs.Words.{no_word, with_byte, has_byte, label_in, goes_on_by, stands_at, word_at};
+ghost use Rattle.names.specs.Words.{no_word, with_byte, has_byte, spelt, label_in, goes_on_by, stands_at, word_at};
 
 use grammar::Class;
 use grammar::Class::{
@@ -38,7 +38,8 @@ pub fn class_of(byte: u8) -> Class
     CLASSES[byte as usize]
 }
 
-// The first bytes of a name, with their number: 17 where there are more than 16.
+// The first bytes of a name, with their number: 17 where there are more than 16. An array beside a length, since the reader
+// and the writer have fixed memory and no heap.
 #[derive(Clone, Copy)]
 pub struct Word {
     pub bytes: [u8; 16],
@@ -75,6 +76,17 @@ impl Word {
         ensures { result ≡ has_byte self at byte }
     {
         at < self.length && at < 16 && self.bytes[at] == byte
+    }
+
+    // The bytes that it holds.
+    pub fn spelt(&self) -> &[u8]
+        ensures { result.now ≡ spelt self.now }
+    {
+        if self.length < 16 {
+            &self.bytes[..self.length]
+        } else {
+            &self.bytes
+        }
     }
 }
 
