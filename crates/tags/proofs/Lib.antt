@@ -1,5 +1,5 @@
 pub mod Agreeing
-pub mod Cursoring
+pub mod Giving
 pub mod Going
 pub mod Live
 pub mod Loops

@@ -16,7 +16,8 @@ use Rattle.grammar.specs.Reading.{read_fed, end_stop, text_stop, answer_of, read
 use Rattle.grammar.proofs.Feeding.{then, joined, feed_all, in_pieces, room_enough, with_room}
 use Rattle.tags.specs.declared.reader.Cursor.{Cursor}
 use Rattle.tags.specs.declared.reader.Stepped.{Stepped}
-use Rattle.tags.specs.Cursors.{begin, closed_in, step_of, given_by, step_by, cursor_step, feed_in, fed_of, whole_stop}
+use Rattle.tags.specs.Cursors.{begin, closed_in, step_of, given_by, step_by, cursor_step, feed_in, whole_stop}
+use Rattle.tags.specs.Feeding.{fed_of}
 use Rattle.tags.proofs.Places.{closed_is}
 use Rattle.tags.proofs.WholeTexts.{mine, same, stop_is}
 

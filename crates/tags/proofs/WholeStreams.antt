@@ -15,8 +15,9 @@ use Rattle.grammar.specs.Writing.{unwritten, write_fed, whole_stream, write_answ
 use Rattle.grammar.proofs.Feeding.{room_enough}
 use Rattle.tags.specs.declared.writer.Scribe.{Scribe}
 use Rattle.tags.specs.declared.writer.Followed.{Followed}
-use Rattle.tags.specs.declared.writer.Wrote.{Wrote}
-use Rattle.tags.specs.Writers.{begin, scribe_step, follow_in, follow_of, write_in, wrote_of, written_out}
+use Rattle.tags.specs.declared.feeding.Fed as fed
+use Rattle.tags.specs.Feeding.{fed_of}
+use Rattle.tags.specs.Writers.{begin, scribe_step, follow_in, follow_of, write_in, written_out}
 use Rattle.tags.proofs.Agreeing.{FeedsAgree}
 use Rattle.tags.proofs.Scribes.{Keeps, keeps_begin, scribe_writes}
 
@@ -50,8 +51,8 @@ module _ (names es out : List ℕ) where
           let f : ltb (length out) (length (write_fed (lines_of names) es).gives) ≡ true = rw agree.gives at e in
           (rw (good, whole_there, f), rw (good, whole_there, f))
 
-      has_room_lem : ltb (length out) (length (follow_in names begin es).gives) ≡ false → (r : Wrote)
-          → r ≡ wrote_of (write_in names begin (length out) es) → (out' : List ℕ) → out' ≡ written_out names begin es out
+      has_room_lem : ltb (length out) (length (follow_in names begin es).gives) ≡ false → (r : fed.Fed Scribe)
+          → r ≡ fed_of (write_in names begin (length out) es) → (out' : List ℕ) → out' ≡ written_out names begin es out
           → Answers names es out out' (Ok r.given)
       has_room_lem e r p out' q = (rw (good, whole_there, full, count), rw (good, whole_there, full) text)
         where
@@ -65,7 +66,7 @@ module _ (names es out : List ℕ) where
               ∙ agree.gives
 
           count : r.given ≡ length (write_fed (lines_of names) es).gives
-          count = ap (λ (x : Wrote). x.given) p ∙ ap length gives
+          count = ap (λ (x : fed.Fed Scribe). x.given) p ∙ ap length gives
 
           text : out' ≡ (write_fed (lines_of names) es).gives ++ drop (length (write_fed (lines_of names) es).gives) out
           text = q ∙ ap (λ (u : List ℕ). u ++ drop (length u) out) gives
@@ -102,8 +103,8 @@ module _ (names es out : List ℕ) (g : Bool) (good : g ≡ good_names names) wh
       pub answers_short : is_none all.left ≡ true → Answers names es out out (Err write_error.Short)
       answers_short f = no_room names es out good_there (tested true (not-false t e)) (fits_is true f)
 
-      pub answers_written : is_none all.left ≡ false → (r : Wrote) (out' : List ℕ)
-          → r ≡ wrote_of (write_in names s (length out) es) → out' ≡ written_out names s es out
+      pub answers_written : is_none all.left ≡ false → (r : fed.Fed Scribe) (out' : List ℕ)
+          → r ≡ fed_of (write_in names s (length out) es) → out' ≡ written_out names s es out
           → Answers names es out out' (Ok r.given)
       answers_written f r out' p q =
           has_room_lem names es out good_there (tested true (not-false t e)) (fits_is false f) r (rw b at p) out' (rw b at q)

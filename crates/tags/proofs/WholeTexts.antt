@@ -18,8 +18,9 @@ use Rattle.grammar.specs.Feeding.{goes_on, Fed, Roomed, feed}
 use Rattle.grammar.specs.Reading.{Place, fresh, closed, read_fed, end_stop, text_stop, read_answer, read_out}
 use Rattle.grammar.proofs.Feeding.{room_inner, room_enough, not_at}
 use Rattle.tags.specs.declared.reader.Cursor.{Cursor}
-use Rattle.tags.specs.declared.reader.Fed as fed
-use Rattle.tags.specs.Cursors.{begin, cursor_step, feed_in, fed_of, feed_out, whole_stop}
+use Rattle.tags.specs.declared.feeding.Fed as fed
+use Rattle.tags.specs.Feeding.{fed_of}
+use Rattle.tags.specs.Cursors.{begin, cursor_step, feed_in, feed_out, whole_stop}
 use Rattle.tags.proofs.Agreeing.{FeedsAgree, InRoom}
 use Rattle.tags.proofs.Places.{Stands, stands_begin, closed_is, piece_agrees}
 
@@ -82,19 +83,19 @@ pub answers_names : (names text out : List ℕ) → good_names names ≡ false
     → (Err read_error.Names ≡ read_answer names text (length out)) × (out ≡ read_out names text out)
 answers_names names text out bad = rw bad (refl, refl)
 
-module _ (names : List ℕ) (good : good_names names ≡ true) (text out : List ℕ) {f : fed.Fed} {stop : Option Fault}
+module _ (names : List ℕ) (good : good_names names ≡ true) (text out : List ℕ) {f : fed.Fed Cursor} {stop : Option Fault}
     (e : f ≡ fed_of (feed_in names begin (length out) text)) (v : stop ≡ whole_stop f (length out)) where
   verdict : stop ≡ text_stop (read_fed (lines_of names) (length out) text)
-  verdict = v ∙ ap (λ (x : fed.Fed). whole_stop x (length out)) e ∙ stop_is names good text (length out)
+  verdict = v ∙ ap (λ (x : fed.Fed Cursor). whole_stop x (length out)) e ∙ stop_is names good text (length out)
 
   taken_is : f.taken ≡ (read_fed (lines_of names) (length out) text).taken
-  taken_is = ap (λ (x : fed.Fed). x.taken) e ∙ (same names good text (length out)).taken
+  taken_is = ap (λ (x : fed.Fed Cursor). x.taken) e ∙ (same names good text (length out)).taken
 
   gives_are : (feed_in names begin (length out) text).gives ≡ (read_fed (lines_of names) (length out) text).gives
   gives_are = (same names good text (length out)).gives
 
   given_is : f.given ≡ length (read_fed (lines_of names) (length out) text).gives
-  given_is = ap (λ (x : fed.Fed). x.given) e ∙ ap length gives_are
+  given_is = ap (λ (x : fed.Fed Cursor). x.given) e ∙ ap length gives_are
 
   -- The text is at fault.
   pub answers_refused : {k : Fault} → stop ≡ Some k
@@ -107,7 +108,7 @@ module _ (names : List ℕ) (good : good_names names ≡ true) (text out : List 
   given_fits h =
       let t = sym verdict ∙ h in
       let l = room_for_end names good text (length out) t in
-      omega (arith, l, ap (λ (x : fed.Fed). x.given) e)
+      omega (arith, l, ap (λ (x : fed.Fed Cursor). x.given) e)
 
   -- It is not, and its events stand in the output.
   pub answers_taken : {out' : List ℕ} → stop ≡ None → out' ≡ feed_out names begin text out

@@ -14,7 +14,8 @@ use Rattle.tags.specs.declared.reader.Within.{Within}
 use Rattle.tags.specs.declared.reader.Within.TheVariants as within
 use Rattle.tags.specs.declared.reader.Cursor.{Cursor}
 use Rattle.tags.specs.declared.reader.Stepped.{Stepped}
-use Rattle.tags.specs.declared.reader.Fed.{Fed}
+use Rattle.tags.specs.declared.feeding.Fed.{Fed}
+use Rattle.tags.specs.Feeding as fed
 use Rattle.names.specs.Words.{no_word, with_byte, label_in, is_label}
 use Rattle.tags.specs.Levels.{no_levels, deeper_by, shallower, newest_of}
 
@@ -118,21 +119,9 @@ step_by c (Err f) = feeding.stopped c f
 abbrev pub cursor_step : List ℕ → Cursor → ℕ → feeding.Step Cursor
 cursor_step names c b = step_by c (step_of names c b)
 
--- One byte, with room for so many events.
-abbrev pub roomed_by : ℕ → Result Stepped Fault → Result Stepped Fault
-roomed_by room (Ok x) = cond (ltb room (length (given_by x.event))) (Err fault.Short) (Ok x)
-roomed_by room (Err f) = Err f
-
-abbrev pub step_in : List ℕ → Cursor → ℕ → ℕ → Result Stepped Fault
-step_in names c b room = roomed_by room (step_of names c b)
-
 -- A piece of text from a cursor, with room for so many events.
 abbrev pub feed_in : List ℕ → Cursor → ℕ → List ℕ → feeding.Fed (feeding.Roomed Cursor)
-feed_in names c room piece = feeding.feed (feeding.roomed (cursor_step names)) (record { inner = c; left = room }) piece
-
--- The answer: events by their number.
-abbrev pub fed_of : feeding.Fed (feeding.Roomed Cursor) → Fed
-fed_of f = record { next = f.state.inner; taken = f.taken; given = length f.gives; stop = f.stops }
+feed_in names c room piece = fed.feed_in (cursor_step names) c room piece
 
 -- The output after a piece: its events from the front, and nothing else changed.
 abbrev pub feed_out : List ℕ → Cursor → List ℕ → List ℕ → List ℕ
@@ -140,5 +129,5 @@ feed_out names c piece out =
     on_front (feed_in names c (length out) piece).gives out
 
 -- The fault of a whole text, if it has one: the first byte's, or else the end's.
-abbrev pub whole_stop : Fed → ℕ → Option Fault
+abbrev pub whole_stop : Fed Cursor → ℕ → Option Fault
 whole_stop f room = cond (feeding.goes_on f.stop) (end_stop (closed_in f.next) (room - f.given)) f.stop

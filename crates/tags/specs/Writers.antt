@@ -18,8 +18,8 @@ use Rattle.tags.specs.declared.writer.Form.TheVariants as form
 use Rattle.tags.specs.declared.writer.Tag.{Tag}
 use Rattle.tags.specs.declared.writer.Spelled.{Spelled}
 use Rattle.tags.specs.declared.writer.Followed.{Followed}
-use Rattle.tags.specs.declared.writer.Wrote.{Wrote}
 use Rattle.names.specs.Words.{spelt, word_at, is_label}
+use Rattle.tags.specs.Feeding.{feed_in}
 use Rattle.tags.specs.Levels.{no_levels, deeper_by, shallower, newest_of}
 
 abbrev pub begin : Scribe
@@ -103,14 +103,6 @@ step_by s (Some x) = feeding.stepped x.next (gives_by x.tag)
 abbrev pub scribe_step : List ℕ → Scribe → ℕ → feeding.Step Scribe
 scribe_step names s b = step_by s (spell_step names s b)
 
--- One event byte, with room for so many bytes.
-abbrev pub roomed_by : ℕ → Option Spelled → Result Spelled Fault
-roomed_by room None = Err fault.Byte
-roomed_by room (Some x) = cond (ltb room (length (gives_by x.tag))) (Err fault.Short) (Ok x)
-
-abbrev pub spell_in : List ℕ → Scribe → ℕ → ℕ → Result Spelled Fault
-spell_in names s b room = roomed_by room (spell_step names s b)
-
 -- The room that n bytes leave, if they fit, and what n more leave of it.
 abbrev pub left_of : ℕ → ℕ → Option ℕ
 left_of room n = cond (ltb room n) None (Some (room - n))
@@ -124,14 +116,11 @@ abbrev pub follow_in : List ℕ → Scribe → List ℕ → feeding.Fed Scribe
 follow_in names s events = feeding.feed (scribe_step names) s events
 
 abbrev pub write_in : List ℕ → Scribe → ℕ → List ℕ → feeding.Fed (feeding.Roomed Scribe)
-write_in names s room piece = feeding.feed (feeding.roomed (scribe_step names)) (record { inner = s; left = room }) piece
+write_in names s room piece = feed_in (scribe_step names) s room piece
 
--- The answers: bytes by their number.
+-- The answer: bytes by their number.
 abbrev pub follow_of : ℕ → feeding.Fed Scribe → Followed
 follow_of room f = record { next = f.state; taken = f.taken; left = left_of room (length f.gives); stop = f.stops }
-
-abbrev pub wrote_of : feeding.Fed (feeding.Roomed Scribe) → Wrote
-wrote_of f = record { next = f.state.inner; taken = f.taken; given = length f.gives; stop = f.stops }
 
 -- The output after a piece: its tags from the front, and nothing else changed.
 abbrev pub written_out : List ℕ → Scribe → List ℕ → List ℕ → List ℕ

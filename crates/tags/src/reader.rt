@@ -1,10 +1,12 @@
 // The reader: tagged text in, event bytes out. A cursor, by value, says how far a text is read, so that it can be fed in
 // pieces; `read` takes a whole text, and judges all of it before it writes.
-ghost use Rattle.std.specs.Prelude.{◌≡◌, ◌≤◌, length};
-ghost use Rattle.meaning.specs.Lent.{on_front};
+ghost use Rattle.std.specs.Prelude.{◌≡◌, length};
 ghost use Rattle.grammar.specs.Reading.{read_answer, read_out, end_stop};
-ghost use Rattle.tags.specs.Cursors.{begin, moved, closed_in, tag_at, open_step, close_step, point_step, tag_step, between, angle, slashed, opening, closing, empty, step_of, step_in, feed_in, fed_of, feed_out, whole_stop};
+ghost use Rattle.tags.specs.Feeding.{fed_of};
+ghost use Rattle.tags.specs.Cursors.{begin, moved, closed_in, tag_at, open_step, close_step, point_step, tag_step, between, angle, slashed, opening, closing, empty, step_of, cursor_step, feed_in, feed_out, whole_stop};
 
+use crate::feeding;
+use crate::feeding::{Steps, Taken};
 use crate::levels::Levels;
 use grammar::{Class, Fault, ReadError};
 use names::Word;
@@ -208,69 +210,41 @@ pub fn step(names: &[u8], cursor: Cursor, byte: u8) -> Result<Stepped, Fault>
     }
 }
 
-// One byte, with room for so many events.
-fn step_in(names: &[u8], cursor: Cursor, byte: u8, room: usize) -> Result<Stepped, Fault>
-    ensures { result ≡ step_in names.now cursor byte room }
-{
-    let stepped = step(names, cursor, byte)?;
-    if stepped.event.is_some() && room == 0 {
-        Err(Fault::Short)
-    } else {
-        Ok(stepped)
-    }
-}
+impl Steps for Cursor {
+    ghost step = { cursor_step };
 
-// What became of a piece of text: where it led, how many bytes were taken, how many events were given, and the fault that
-// stopped it at the next byte.
-#[derive(Clone, Copy)]
-pub struct Fed {
-    pub next: Cursor,
-    pub taken: usize,
-    pub given: usize,
-    pub stop: Option<Fault>,
-}
-
-// A piece of text, with room for so many events. Those that the output has places for are written there.
-fn run(names: &[u8], cursor: Cursor, piece: &[u8], room: usize, out: &mut [u8]) -> Fed
-    ensures value { result ≡ fed_of (feed_in names.now cursor room piece.now) }
-    ensures out_after { room ≤ length out.old → out.new ≡ on_front (feed_in names.now cursor room piece.now).gives out.old }
-{
-    let mut next = cursor;
-    let mut given = 0;
-    for (taken, &byte) in piece.iter().enumerate() {
-        match step_in(names, next, byte, room - given) {
-            Ok(stepped) => {
-                if let Some(event) = stepped.event {
-                    if given < out.len() {
-                        out[given] = event;
-                    }
-                    given += 1;
-                }
-                next = stepped.next;
+    fn take(
+        self,
+        names: &[u8],
+        byte: u8,
+        room: usize,
+        out: &mut [u8],
+        at: usize,
+    ) -> Result<Taken<Cursor>, Fault> {
+        let stepped = step(names, self, byte)?;
+        if let Some(event) = stepped.event {
+            if room == 0 {
+                return Err(Fault::Short);
             }
-            Err(fault) => {
-                return Fed {
-                    next,
-                    taken,
-                    given,
-                    stop: Some(fault),
-                };
+            if at < out.len() {
+                out[at] = event;
             }
         }
-    }
-    Fed {
-        next,
-        taken: piece.len(),
-        given,
-        stop: None,
+        Ok(Taken {
+            next: stepped.next,
+            given: usize::from(stepped.event.is_some()),
+        })
     }
 }
+
+// What became of a piece of text: what was taken are its bytes, and what was given are events.
+pub type Fed = feeding::Fed<Cursor>;
 
 // A piece of text, with room for so many events: what `feed` would answer. Nothing is written.
 pub fn survey(names: &[u8], cursor: Cursor, piece: &[u8], room: usize) -> Fed
     ensures { result ≡ fed_of (feed_in names.now cursor room piece.now) }
 {
-    run(names, cursor, piece, room, &mut [])
+    feeding::feed(names, cursor, piece, room, &mut [])
 }
 
 // A piece of text: its events are written from the front of the output, as far as it goes on without a fault.
@@ -278,7 +252,7 @@ pub fn feed(names: &[u8], cursor: Cursor, piece: &[u8], out: &mut [u8]) -> Fed
     ensures value { result ≡ fed_of (feed_in names.now cursor (length out.old) piece.now) }
     ensures out_after { out.new ≡ feed_out names.now cursor piece.now out.old }
 {
-    run(names, cursor, piece, out.len(), out)
+    feeding::feed(names, cursor, piece, out.len(), out)
 }
 
 // The fault at the text's end: something is open, or there is no room for byte 65.

@@ -4,8 +4,11 @@ ghost use Rattle.std.specs.Prelude.{◌≡◌, ◌&&◌, ◌+◌, ◌≤◌, len
 ghost use Rattle.meaning.specs.Lent.{put_at};
 ghost use Rattle.grammar.specs.Feeding.{goes_on};
 ghost use Rattle.grammar.specs.Writing.{write_answer, write_out};
-ghost use Rattle.tags.specs.Writers.{begin, written, ended, has_name, head_of, tail_of, tag_bytes, open_event, point_event, close_event, close_of_event, event_step, spell_step, spell_in, gives_by, less_by, follow_in, follow_of, write_in, wrote_of, written_out};
+ghost use Rattle.tags.specs.Feeding.{fed_of};
+ghost use Rattle.tags.specs.Writers.{begin, written, ended, has_name, head_of, tail_of, tag_bytes, open_event, point_event, close_event, close_of_event, event_step, spell_step, scribe_step, gives_by, less_by, follow_in, follow_of, write_in, written_out};
 
+use crate::feeding;
+use crate::feeding::{Steps, Taken};
 use crate::levels::Levels;
 use answers::Event;
 use grammar::{Fault, WriteError};
@@ -49,15 +52,8 @@ struct Followed {
     pub stop: Option<Fault>,
 }
 
-// What a piece of a stream comes to: the scribe after it, how many events are taken, how many bytes are written, and
-// whether the next event stops it.
-#[derive(Clone, Copy)]
-pub struct Wrote {
-    pub next: Scribe,
-    pub taken: usize,
-    pub given: usize,
-    pub stop: Option<Fault>,
-}
+// What a piece of a stream comes to: what is taken are its events, and what is given are bytes of tags.
+pub type Wrote = feeding::Fed<Scribe>;
 
 impl Scribe {
     // Nothing is written yet.
@@ -249,15 +245,29 @@ impl Spelled {
     }
 }
 
-// One event byte, with room for so many bytes.
-fn spell_in(names: &[u8], scribe: Scribe, byte: u8, room: usize) -> Result<Spelled, Fault>
-    ensures { result ≡ spell_in names.now scribe byte room }
-{
-    let spelled = spell(names, scribe, byte).ok_or(Fault::Byte)?;
-    if room < spelled.length() {
-        Err(Fault::Short)
-    } else {
-        Ok(spelled)
+impl Steps for Scribe {
+    ghost step = { scribe_step };
+
+    fn take(
+        self,
+        names: &[u8],
+        byte: u8,
+        room: usize,
+        out: &mut [u8],
+        at: usize,
+    ) -> Result<Taken<Scribe>, Fault> {
+        let spelled = spell(names, self, byte).ok_or(Fault::Byte)?;
+        let given = spelled.length();
+        if room < given {
+            return Err(Fault::Short);
+        }
+        if at <= out.len() && given <= out.len() - at {
+            spelled.put(out, at);
+        }
+        Ok(Taken {
+            next: spelled.next,
+            given,
+        })
     }
 }
 
@@ -268,8 +278,8 @@ fn less(left: Option<usize>, bytes: usize) -> Option<usize>
     left?.checked_sub(bytes)
 }
 
-// The events, up to the first at fault, without writing their tags. It is no twin of `put_events`: where the room ends it goes
-// on, since a stream that is not whole is told before one that does not fit.
+// The events, up to the first at fault, without writing their tags. It is no twin of `feeding::feed`: where the room ends it
+// goes on, since a stream that is not whole is told before one that does not fit.
 fn follow(names: &[u8], scribe: Scribe, events: &[u8], room: usize) -> Followed
     ensures { result ≡ follow_of room (follow_in names.now scribe events.now) }
 {
@@ -310,34 +320,10 @@ impl Followed {
 
 // The tags of a piece of a stream, from the output's front: up to the first event at fault, or without room for its tag.
 pub fn put_events(names: &[u8], scribe: Scribe, piece: &[u8], out: &mut [u8]) -> Wrote
-    ensures value { result ≡ wrote_of (write_in names.now scribe (length out.old) piece.now) }
+    ensures value { result ≡ fed_of (write_in names.now scribe (length out.old) piece.now) }
     ensures out_after { out.new ≡ written_out names.now scribe piece.now out.old }
 {
-    let mut next = scribe;
-    let mut given = 0;
-    for (taken, &event) in piece.iter().enumerate() {
-        match spell_in(names, next, event, out.len() - given) {
-            Ok(spelled) => {
-                spelled.put(out, given);
-                given += spelled.length();
-                next = spelled.next;
-            }
-            Err(fault) => {
-                return Wrote {
-                    next,
-                    taken,
-                    given,
-                    stop: Some(fault),
-                };
-            }
-        }
-    }
-    Wrote {
-        next,
-        taken: piece.len(),
-        given,
-        stop: None,
-    }
+    feeding::feed(names, scribe, piece, out.len(), out)
 }
 
 // A whole stream as tagged text, from the output's front. Answers how many bytes it has. All of it is judged first: a refusal

@@ -1,7 +1,8 @@
 -- `read` meets its contract.
 use Rattle.std.proofs.Common.{sym, ap, ◌∙◌, length}
 use Rattle.tags.specs.declared.reader.Cursor.{Cursor}
-use Rattle.tags.specs.Cursors.{feed_in, fed_of, feed_out}
+use Rattle.tags.specs.Feeding.{fed_of}
+use Rattle.tags.specs.Cursors.{feed_in, feed_out}
 use Rattle.tags.proofs.Nones.{none_is}
 use Rattle.tags.proofs.WholeTexts.{answers_refused, answers_taken}
 use Rattle.tags.proofs.reader.read.Goals as goal
