@@ -1,4 +1,5 @@
 -- Laws of bytes fed step by step: in pieces as at once, and with room. Assumes nothing.
+use Rattle.std.proofs.lemmas.Option.{none-some}
 use Rattle.std.proofs.Common.{Option, Some, None}
 use mathlib.Core.Path.{◌≡◌, refl, sym, ap, ◌∙◌}
 use mathlib.Core.Bool.{Bool, true, false, cond}
@@ -54,8 +55,8 @@ went out n a = record { gives = out; taken = n; state = a; stops = None }
 abbrev pub broke : {A : Type 0} → List ℕ → ℕ → A → Fault → Fed A
 broke out n a k = record { gives = out; taken = n; state = a; stops = Some k }
 
-pub not_at : {P : Type 0} (k : Fault) → None ≡ Some k → P
-not_at k e = let z : ◌≡◌ {A = ℕ} 0 1 = cc in absurd (omega arith)
+pub no_fault : {P : Type 0} (k : Fault) → None ≡ Some k → P
+no_fault k e = absurd (none-some k e)
 
 pub one_more : (n : ℕ) → 1 + n ≡ suc n
 one_more n = omega arith
@@ -107,7 +108,7 @@ module _ {A : Type 0} (step : A → ℕ → Step A) where
           ≡ went (feed step (step a b).next s).gives (length s) (feed step (step a b).next s).state)
           → feed step a (b ∷ s) ≡ went (feed step a (b ∷ s)).gives (suc (length s)) (feed step a (b ∷ s)).state
       go None h ih = rw (h, ih (rw h at e), one_more (length s))
-      go (Some k) h ih = not_at k (sym (rw h at e))
+      go (Some k) h ih = no_fault k (sym (rw h at e))
 
   broken_later : (a : A) (b : ℕ) (s : List ℕ) (k : Fault) → (step a b).stops ≡ None → Broken step (step a b).next s k → Broken step a (b ∷ s) k
   broken_later a b s k h i =
@@ -122,7 +123,7 @@ module _ {A : Type 0} (step : A → ℕ → Step A) where
       }
 
   pub where_broken : (a : A) (s : List ℕ) (k : Fault) → (feed step a s).stops ≡ Some k → Broken step a s k
-  where_broken a [] k e = not_at k e
+  where_broken a [] k e = no_fault k e
   where_broken a (b ∷ s) k e = go (step a b).stops refl (where_broken (step a b).next s k)
     where
       go : (x : Option Fault) → (step a b).stops ≡ x → ((feed step (step a b).next s).stops ≡ Some k → Broken step (step a b).next s k)
@@ -199,8 +200,8 @@ module _ {A : Type 0} (step : A → ℕ → Step A) where
           fits (yes l) =
               let i = ih (rw (roomed_fits step a r b h l) at e) in
               rw h (i.0, rw length-append (omega (arith, i.1)))
-          fits (no l) = not_at fault.Short (sym (rw (roomed_short step a r b h (omega arith)) at e))
-      go (Some k) h ih = not_at k (sym (rw h at e))
+          fits (no l) = no_fault fault.Short (sym (rw (roomed_short step a r b h (omega arith)) at e))
+      go (Some k) h ih = no_fault k (sym (rw h at e))
 
 -- Pieces, one after another, as one list.
 abbrev pub joined : List (List ℕ) → List ℕ

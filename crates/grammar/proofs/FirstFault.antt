@@ -1,5 +1,6 @@
 -- The first place at fault is where the reader stops, and it stops by the kind that applies there first; and the other
 -- way round. Assumes nothing.
+use Rattle.std.proofs.lemmas.Option.{same_Some}
 use Rattle.std.proofs.Common.{Option, Some, None}
 use mathlib.Core.Path.{◌≡◌, refl, sym, ap, subst, ◌∙◌}
 use mathlib.Core.Bool.{Bool, true, false}
@@ -20,7 +21,7 @@ use Rattle.grammar.specs.Tags.{Tag, name_of, tag_text, Holds, Nested, Begun, beg
 use Rattle.grammar.specs.Feeding.{Step, stepped, Fed, Roomed, roomed}
 use Rattle.grammar.specs.Reading.{Next, extend, Place, fresh, between, close, closed, read_step, read_fed, text_stop}
 use Rattle.grammar.specs.Faults.{Begins, Good, Whole, Faulty}
-use Rattle.grammar.proofs.Feeding.{broke, not_at, feed_break, roomed_fits, roomed_short, roomed_stop, Broken, where_broken}
+use Rattle.grammar.proofs.Feeding.{broke, no_fault, feed_break, roomed_fits, roomed_short, roomed_stop, Broken, where_broken}
 use Rattle.grammar.proofs.Tagging.{all_but, all_but_text}
 use Rattle.grammar.proofs.ReadingTags.{placed, holds_append, label_judged, nested_judged}
 use Rattle.grammar.proofs.Lexing.{no_begins, whole_extends}
@@ -130,9 +131,6 @@ faulty_stops {ns} {room} {s = s} (Faulty.end_short {es = es} g e) =
 
 -- The other way round
 
-pub same_fault : {j k : Fault} → Some j ≡ Some k → j ≡ k
-same_fault e = cc
-
 not_closed : {p : Place} → p.begun ≡ Begun.nothing → p.levels ≡ [] → closed p ≡ false → ⊥
 not_closed e f h = true_T {b = false} (sym (rw (e, f) at h))
 
@@ -142,14 +140,14 @@ module _ {ns : List (List ℕ)} {room : ℕ} {u o es : List ℕ} {q : Begun} (g 
   -- A byte for which there is room goes on.
   fits_not : {P : Type 0} → (read_step ns (placed q o) b).stops ≡ None → length (read_step ns (placed q o) b).gives ≤ room - length es → P
   fits_not h l =
-      not_at k (sym (ap (λ (x : Step (Roomed Place)). x.stops) (roomed_fits (read_step ns) (placed q o) (room - length es) b h l)) ∙ stops)
+      no_fault k (sym (ap (λ (x : Step (Roomed Place)). x.stops) (roomed_fits (read_step ns) (placed q o) (room - length es) b h l)) ∙ stops)
 
   -- A byte that is at fault itself.
   itself : (j : Fault) → (read_step ns (placed q o) b).stops ≡ Some j → j ≡ k
-  itself j h = same_fault (sym (roomed_stop (read_step ns) (placed q o) (room - length es) b j h) ∙ stops)
+  itself j h = same_Some _ _ (sym (roomed_stop (read_step ns) (placed q o) (room - length es) b j h) ∙ stops)
 
   no_room : (read_step ns (placed q o) b).stops ≡ None → room - length es < length (read_step ns (placed q o) b).gives → fault.Short ≡ k
-  no_room h l = same_fault (sym (ap (λ (x : Step (Roomed Place)). x.stops) (roomed_short (read_step ns) (placed q o) (room - length es) b h l)) ∙ stops)
+  no_room h l = same_Some _ _ (sym (ap (λ (x : Step (Roomed Place)). x.stops) (roomed_short (read_step ns) (placed q o) (room - length es) b h l)) ∙ stops)
 
   stop_fault : {x : Step Place} → read_step ns (placed q o) b ≡ x → Verdict ns q o b x → Faulty ns room (u ++ (b ∷ v)) k (length u)
   stop_fault e (Verdict.blank f h) = fits_not (rw e) (rw e (omega arith))
@@ -187,13 +185,13 @@ module _ (ns : List (List ℕ)) (room : ℕ) (s : List ℕ) {k : Fault} where
 
       last : (read_fed ns room s).stops ≡ None → (x : Bool) → closed (read_fed ns room s).state.inner ≡ x
           → (y : Bool) → ltb 0 (read_fed ns room s).state.left ≡ y → Faulty ns room s k (read_fed ns room s).taken
-      last h true c true l = not_at k (rw (h, c, l) at e)
+      last h true c true l = no_fault k (rw (h, c, l) at e)
       last h true c false l =
           let g = ended_good ns room s h (closed_place (read_fed ns room s).state.inner c) in
-          rw (← same_fault (rw (h, c, l) at e), all h)
+          rw (← same_Some _ _ (rw (h, c, l) at e), all h)
           (Faulty.end_short g (omega (arith, left_over_lem ns room s h, ltb-false 0 (read_fed ns room s).state.left l, g.fits)))
       last h false c y l =
-          rw (← same_fault (rw (h, c) at e), all h)
+          rw (← same_Some _ _ (rw (h, c) at e), all h)
           (Faulty.ended (read_good room s h) (λ p. not_closed p.0 p.1 c))
 
       go : (x : Option Fault) → (read_fed ns room s).stops ≡ x → Faulty ns room s k (read_fed ns room s).taken

@@ -11,7 +11,7 @@ use Rattle.grammar.specs.Tags.{Tag, tag_text, Holds, Begun, begun_text, is_begun
 use Rattle.grammar.specs.Feeding.{Step, stopped, stepped, Fed, after, feed}
 use Rattle.grammar.specs.Reading.{Next, extend}
 use Rattle.grammar.specs.Faults.{Begins, Whole}
-use Rattle.grammar.proofs.Feeding.{went, feed_then, feed_break, went_then, one_more, not_at}
+use Rattle.grammar.proofs.Feeding.{went, feed_then, feed_break, went_then, one_more, no_fault}
 use Rattle.grammar.proofs.Tagging.{begun_on, tag_on}
 
 -- The tag that is begun, and the tags before it.
@@ -77,7 +77,7 @@ no_begins {s} {ts} q b h g e k =
     ap (λ (f : Fed Lexed). f.stops)
     (feed_break collect start (lexed q ts) [] (length (s ++ begun_text q)) fault.Byte (s ++ begun_text q) b k.rest
     (collects_begun q h g) (rw e)) in
-    not_at fault.Byte (sym (rw (append_assoc (s ++ begun_text q) (b ∷ []) k.rest) at on) ∙ off)
+    no_fault fault.Byte (sym (rw (append_assoc (s ++ begun_text q) (b ∷ []) k.rest) at on) ∙ off)
 
 -- A tag that is whole with a byte is what the byte makes whole.
 pub whole_extends : (q : Begun) (b : ℕ) (t : Tag) → is_begun q ≡ true → Whole q b t → extend q b ≡ Next.whole t
@@ -97,6 +97,6 @@ whole_extends q b t g w = go (extend q b) refl
     on = ap (λ (f : Fed Lexed). f.stops) fed
 
     go : (x : Next) → extend q b ≡ x → extend q b ≡ Next.whole t
-    go Next.no e = not_at fault.Byte (sym (rw e at on))
+    go Next.no e = no_fault fault.Byte (sym (rw e at on))
     go (Next.more q') e = absurd (nil≢cons (rw e at tags))
     go (Next.whole t') e = e ∙ ap Next.whole (head-eq_of_cons-eq (rw e at tags))

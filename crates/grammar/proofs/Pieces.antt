@@ -19,14 +19,14 @@ pub untrue : (b : Bool) → ¬ (b ≡ true) → b ≡ false
 untrue true n = absurd (n refl)
 untrue false n = refl
 
-on_not : (x : Option Fault) → goes_on x ≡ true → x ≡ None
-on_not None e = refl
-on_not (Some k) e = absurd (true_false e refl)
+pub on_none : (x : Option Fault) → goes_on x ≡ true → x ≡ None
+on_none None e = refl
+on_none (Some k) e = absurd (true_false e refl)
 
 module _ {A : Type 0} (step : A → ℕ → Step A) where
   -- What goes on has taken all.
   pub feed_taken : (a : A) (s : List ℕ) → goes_on (feed step a s).stops ≡ true → (feed step a s).taken ≡ length s
-  feed_taken a s e = ap (λ (f : Fed A). f.taken) (all_taken step a s (on_not (feed step a s).stops e))
+  feed_taken a s e = ap (λ (f : Fed A). f.taken) (all_taken step a s (on_none (feed step a s).stops e))
 
   -- What goes on over two pieces goes on over the first.
   pub feed_front : (a : A) (s t : List ℕ) → goes_on (feed step a (s ++ t)).stops ≡ true → goes_on (feed step a s).stops ≡ true

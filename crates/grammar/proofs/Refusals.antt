@@ -1,5 +1,6 @@
 -- The reader refuses by the first place at fault and the first kind that applies there, and a refusal writes nothing.
 -- Assumes nothing.
+use Rattle.std.proofs.lemmas.Option.{same_Some}
 use Rattle.std.proofs.Common.{Option, Some, None, Result, Ok, Err}
 use mathlib.Core.Path.{◌≡◌, refl, sym, ◌∙◌}
 use mathlib.Core.Bool.{Bool, true, false}
@@ -15,7 +16,7 @@ use Rattle.grammar.specs.Names.{lines_of, good_names}
 use Rattle.grammar.specs.Reading.{read_fed, text_stop, read_answer, read_out}
 use Rattle.grammar.specs.Faults.{Faulty}
 use Rattle.grammar.proofs.Texts.{refused_taken}
-use Rattle.grammar.proofs.FirstFault.{same_fault, faulty_stops, stops_faulty}
+use Rattle.grammar.proofs.FirstFault.{faulty_stops, stops_faulty}
 
 same_refusal : {j k : Fault} {i n : ℕ} → ◌≡◌ {A = Result ℕ ReadError} (Err (read_error.Text j n)) (Err (read_error.Text k i)) → (j ≡ k) × (n ≡ i)
 same_refusal e = (cc, cc)
@@ -32,7 +33,7 @@ pub one_fault : {ns : List (List ℕ)} {room i i' : ℕ} {s : List ℕ} {k k' : 
 one_fault f f' =
     let a = faulty_stops f in
     let b = faulty_stops f' in
-    (same_fault (sym a.stop ∙ b.stop), sym a.place ∙ b.place)
+    (same_Some _ _ (sym a.stop ∙ b.stop), sym a.place ∙ b.place)
 
 module _ (names : List ℕ) (room : ℕ) where
   -- A text at fault is refused as it is at fault,

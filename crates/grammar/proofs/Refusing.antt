@@ -12,7 +12,7 @@ use Rattle.grammar.specs.Tags.{tag_text, Holds, Nested, Begun, begun_text}
 use Rattle.grammar.specs.Feeding.{Step, Fed, feed}
 use Rattle.grammar.specs.Reading.{Place, fresh, read_step, read_fed}
 use Rattle.grammar.specs.Faults.{Good}
-use Rattle.grammar.proofs.Feeding.{went, not_at, with_room, room_enough, room_inner}
+use Rattle.grammar.proofs.Feeding.{went, no_fault, with_room, room_enough, room_inner}
 use Rattle.grammar.proofs.ReadingTags.{placed, holds_append, nested_append, read_begun}
 use Rattle.grammar.proofs.Verdicts.{Verdict, verdict}
 
@@ -63,10 +63,10 @@ module _ {ns : List (List ℕ)} {r : ℕ} {u o es : List ℕ} {q : Begun} where
         nested = nested_append g.nested n;
         fits = l;
       }
-  good_step g (Verdict.byte e) s l = not_at fault.Byte (sym s)
-  good_step g (Verdict.unknown w n) s l = not_at fault.Unknown (sym s)
-  good_step g (Verdict.closing w n c) s l = not_at fault.Closing (sym s)
-  good_step g (Verdict.deep w n d) s l = not_at fault.Deep (sym s)
+  good_step g (Verdict.byte e) s l = no_fault fault.Byte (sym s)
+  good_step g (Verdict.unknown w n) s l = no_fault fault.Unknown (sym s)
+  good_step g (Verdict.closing w n c) s l = no_fault fault.Closing (sym s)
+  good_step g (Verdict.deep w n d) s l = no_fault fault.Deep (sym s)
 
 -- The text s is good: it led to where f stands, and gave es and then what f gave.
 abbrev pub GoodFed : List (List ℕ) → ℕ → List ℕ → List ℕ → Fed Place → Type 0
@@ -100,7 +100,7 @@ module _ {ns : List (List ℕ)} where
           let one = good_step g (verdict ns q b o g.begun) h (le_refl (length (es ++ (read_step ns (placed q o) b).gives))) in
           let all = ih one (rw h at s) (rw together (rw h at l)) in
           rw h (rw (append_assoc u (b ∷ []) v, together) at all)
-      go (Some k) h ih = not_at k (sym (rw h at s))
+      go (Some k) h ih = no_fault k (sym (rw h at s))
 
   -- What is read without a fault, from the front of the text and with room, is good; and what is good is read so.
   pub read_good : (r : ℕ) (s : List ℕ) → (read_fed ns r s).stops ≡ None

@@ -18,7 +18,7 @@ use Rattle.grammar.specs.Tags.{Text, Begun}
 use Rattle.grammar.specs.Feeding.{Fed, Roomed}
 use Rattle.grammar.specs.Reading.{Place, fresh, unbegun, closed, read_fed, text_stop, read_answer, read_out}
 use Rattle.grammar.specs.Faults.{Good}
-use Rattle.grammar.proofs.Feeding.{went, not_at}
+use Rattle.grammar.proofs.Feeding.{went, no_fault}
 use Rattle.grammar.proofs.ReadingTags.{placed, read_tags}
 use Rattle.grammar.proofs.Refusing.{read_good, good_read}
 
@@ -83,13 +83,13 @@ ended f e = go f.stops refl
   where
     last : f.stops ≡ None → (x y : Bool) → closed f.state.inner ≡ x → ltb 0 f.state.left ≡ y → Ended f
     last h true true c l = record { on = h; shut = closed_place f.state.inner c; room = ltb-true 0 f.state.left l }
-    last h true false c l = not_at fault.Short (sym (rw (h, c, l) at e))
-    last h false true c l = not_at fault.Ended (sym (rw (h, c) at e))
-    last h false false c l = not_at fault.Ended (sym (rw (h, c) at e))
+    last h true false c l = no_fault fault.Short (sym (rw (h, c, l) at e))
+    last h false true c l = no_fault fault.Ended (sym (rw (h, c) at e))
+    last h false false c l = no_fault fault.Ended (sym (rw (h, c) at e))
 
     go : (x : Option Fault) → f.stops ≡ x → Ended f
     go None h = last h (closed f.state.inner) (ltb 0 f.state.left) refl refl
-    go (Some k) h = not_at k (sym (rw h at e))
+    go (Some k) h = no_fault k (sym (rw h at e))
 
 good_text : {ns : List (List ℕ)} {room : ℕ} {s es : List ℕ} → Good ns room s Begun.nothing [] es → Text ns s (es ++ (65 ∷ []))
 good_text {es = es} g =

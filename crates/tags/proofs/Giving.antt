@@ -1,6 +1,6 @@
 -- What a byte of a text writes, where there is room for so many events. Assumes nothing.
 use Rattle.std.proofs.Common.{Some, None, Ok}
-use mathlib.Core.Path.{◌≡◌, refl}
+use mathlib.Core.Path.{◌≡◌}
 use mathlib.Core.List.{List, [], ◌∷◌}
 use Prim.Native.Nat.{ℕ, ◌<◌}
 use native.Mathlib.Omega.{arith}

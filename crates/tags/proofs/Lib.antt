@@ -1,8 +1,8 @@
 pub mod Agreeing
+pub mod Following
 pub mod Giving
 pub mod Going
 pub mod Live
-pub mod Loops
 pub mod Nones
 pub mod Opened
 pub mod Pieces

@@ -1,5 +1,6 @@
 -- What a loop over a piece holds, for any step, with room for what is given: how far the piece has gone, and what stands in
 -- the output. Assumes nothing.
+use Rattle.std.proofs.lemmas.Option.{none-some}
 use Rattle.std.proofs.Common.{Option, Some, None, Result, Ok, Err}
 use mathlib.Core.Path.{◌≡◌, refl, sym, ap, ◌∙◌, subst}
 use native.Mathlib.Decide.{dec_le}
@@ -84,9 +85,6 @@ module _ {A : Type 0} (step : A → ℕ → Step A) (a : A) (room : ℕ) (piece 
               ∙ put_put 0 w.gives out₀ (omega (arith, w.so_far.count, w.so_far.fits)) more;
         }
 
-none_no_some : {k : Fault} → ◌≡◌ {A = Option Fault} None (Some k) → ⊥
-none_no_some e = let z : ◌≡◌ {A = ℕ} 0 1 = cc in omega arith
-
 -- A step with room that goes on has room for what it gives.
 pub record Went {A : Type 0} (x : Step (Roomed A)) (room : ℕ) : Type 0 where
   pub is : x ≡ stepped (room_in x.next.inner (room - length x.gives)) x.gives
@@ -100,8 +98,8 @@ went_in step a room b e = go (step a b).stops refl
       where
         by_room : Dec (length (step a b).gives ≤ room) → Went (step_in step a room b) room
         by_room (yes l) = rw (roomed_fits step a room b h l) (record { is = refl; fits = l })
-        by_room (no l) = absurd (none_no_some (sym e ∙ ap (λ (x : Step (Roomed _)). x.stops) (roomed_short step a room b h (omega arith))))
-    go (Some k) h = absurd (none_no_some (sym e ∙ roomed_stop step a room b k h))
+        by_room (no l) = absurd (none-some _ (sym e ∙ ap (λ (x : Step (Roomed _)). x.stops) (roomed_short step a room b h (omega arith))))
+    go (Some k) h = absurd (none-some _ (sym e ∙ roomed_stop step a room b k h))
 
 err_no_ok : {A : Type 0} {x : Taken A} {f : Fault} → ◌≡◌ {A = Result (Taken A) Fault} (Err f) (Ok x) → ⊥
 err_no_ok e = let z : ◌≡◌ {A = ℕ} 0 1 = cc in omega arith

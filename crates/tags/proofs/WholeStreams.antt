@@ -14,7 +14,7 @@ use Rattle.grammar.specs.Feeding.{goes_on, Fed, Roomed}
 use Rattle.grammar.specs.Writing.{unwritten, write_fed, whole_stream, write_answer, write_out}
 use Rattle.grammar.proofs.Feeding.{room_enough}
 use Rattle.tags.specs.declared.writer.Scribe.{Scribe}
-use Rattle.tags.specs.declared.writer.Followed.{Followed}
+use Rattle.tags.specs.declared.writer.Follower.{Follower}
 use Rattle.tags.specs.declared.feeding.Fed as fed
 use Rattle.tags.specs.Feeding.{fed_of}
 use Rattle.tags.specs.Writers.{begin, scribe_step, follow_in, follow_of, write_in, written_out}
@@ -77,8 +77,8 @@ module _ (names es out : List ℕ) (g : Bool) (good : g ≡ good_names names) wh
   pub answers_names : not g ≡ true → Answers names es out out (Err write_error.Names)
   answers_names h = bad_names names es out (sym good ∙ not-true g h)
 
-  module _ (h : not g ≡ false) (s : Scribe) (b : s ≡ begin) (all : Followed) (a : all ≡ follow_of (length out) (follow_in names s es))
-      (t : Bool) (w : t ≡ goes_on all.stop && all.next.ended) where
+  module _ (h : not g ≡ false) (s : Scribe) (b : s ≡ begin) (all : fed.Fed Follower) (a : all ≡ follow_of (length out) (follow_in names s es))
+      (t : Bool) (w : t ≡ goes_on all.stop && all.next.scribe.ended) where
     good_there : good_names names ≡ true
     good_there = sym good ∙ not-false g h
 
@@ -86,11 +86,11 @@ module _ (names es out : List ℕ) (g : Bool) (good : g ≡ good_names names) wh
     all_is = a ∙ ap (λ (x : Scribe). follow_of (length out) (follow_in names x es)) b
 
     tested : (u : Bool) → t ≡ u → goes_on (follow_in names begin es).stops && (follow_in names begin es).state.ended ≡ u
-    tested u e = ap (λ (x : Followed). goes_on x.stop && x.next.ended) (sym all_is) ∙ sym w ∙ e
+    tested u e = ap (λ (x : fed.Fed Follower). goes_on x.stop && x.next.scribe.ended) (sym all_is) ∙ sym w ∙ e
 
     -- There is room left exactly where the text fits.
-    fits_is : (u : Bool) → is_none all.left ≡ u → ltb (length out) (length (follow_in names begin es).gives) ≡ u
-    fits_is u e = none_left (ltb (length out) (length (follow_in names begin es).gives)) ∙ ap (λ (x : Followed). is_none x.left) (sym all_is) ∙ e
+    fits_is : (u : Bool) → is_none all.next.left ≡ u → ltb (length out) (length (follow_in names begin es).gives) ≡ u
+    fits_is u e = none_left (ltb (length out) (length (follow_in names begin es).gives)) ∙ ap (λ (x : fed.Fed Follower). is_none x.next.left) (sym all_is) ∙ e
       where
         none_left : (t : Bool) → t ≡ is_none (cond t None (Some (length out - length (follow_in names begin es).gives)))
         none_left true = refl
@@ -100,10 +100,10 @@ module _ (names es out : List ℕ) (g : Bool) (good : g ≡ good_names names) wh
     answers_refused e = rw all_is (not_whole names es out good_there (tested false (not-true t e)))
 
     module _ (e : not t ≡ false) where
-      pub answers_short : is_none all.left ≡ true → Answers names es out out (Err write_error.Short)
+      pub answers_short : is_none all.next.left ≡ true → Answers names es out out (Err write_error.Short)
       answers_short f = no_room names es out good_there (tested true (not-false t e)) (fits_is true f)
 
-      pub answers_written : is_none all.left ≡ false → (r : fed.Fed Scribe) (out' : List ℕ)
+      pub answers_written : is_none all.next.left ≡ false → (r : fed.Fed Scribe) (out' : List ℕ)
           → r ≡ fed_of (write_in names s (length out) es) → out' ≡ written_out names s es out
           → Answers names es out out' (Ok r.given)
       answers_written f r out' p q =

@@ -16,17 +16,14 @@ use Rattle.grammar.specs.declared.ReadError.TheVariants as read_error
 use Rattle.grammar.specs.Names.{lines_of, good_names}
 use Rattle.grammar.specs.Feeding.{goes_on, Fed, Roomed, feed}
 use Rattle.grammar.specs.Reading.{Place, fresh, closed, read_fed, end_stop, text_stop, read_answer, read_out}
-use Rattle.grammar.proofs.Feeding.{room_inner, room_enough, not_at}
+use Rattle.grammar.proofs.Pieces.{on_none}
+use Rattle.grammar.proofs.Feeding.{room_inner, room_enough, no_fault}
 use Rattle.tags.specs.declared.reader.Cursor.{Cursor}
 use Rattle.tags.specs.declared.feeding.Fed as fed
 use Rattle.tags.specs.Feeding.{fed_of}
 use Rattle.tags.specs.Cursors.{begin, cursor_step, feed_in, feed_out, whole_stop}
 use Rattle.tags.proofs.Agreeing.{FeedsAgree, InRoom}
 use Rattle.tags.proofs.Places.{Stands, stands_begin, closed_is, piece_agrees}
-
-went_on : (t : Option Fault) → goes_on t ≡ true → t ≡ None
-went_on None e = refl
-went_on (Some k) e = cc
 
 module _ (names : List ℕ) (good : good_names names ≡ true) (text : List ℕ) (room : ℕ) where
   abbrev pub mine : Fed (Roomed Cursor)
@@ -41,7 +38,7 @@ module _ (names : List ℕ) (good : good_names names ≡ true) (text : List ℕ)
   -- The room that is left after a text that goes on.
   left_is : goes_on meant.stops ≡ true → room - length mine.gives ≡ meant.state.left
   left_is e =
-      let n : mine.stops ≡ None = same.stops ∙ went_on meant.stops e in
+      let n : mine.stops ≡ None = same.stops ∙ on_none meant.stops e in
       let f = room_enough (cursor_step names) begin room text (room_inner (cursor_step names) begin room text n).1 in
       let g : mine.gives ≡ (feed (cursor_step names) begin text).gives = ap (λ (x : Fed (Roomed Cursor)). x.gives) f in
       let h : mine.state.left ≡ room - length (feed (cursor_step names) begin text).gives = ap (λ (x : Fed (Roomed Cursor)). x.state.left) f in
@@ -63,8 +60,8 @@ module _ (names : List ℕ) (good : good_names names ≡ true) (text : List ℕ)
     where
       go : (t : Bool) → ltb 0 l ≡ t → cond t None (Some fault.Short) ≡ None → 0 < l
       go true h f = ltb-true 0 l h
-      go false h f = not_at fault.Short (sym f)
-  end_fits false l e = not_at fault.Ended (sym e)
+      go false h f = no_fault fault.Short (sym f)
+  end_fits false l e = no_fault fault.Ended (sym e)
 
   pub room_for_end : text_stop meant ≡ None → length mine.gives < room
   room_for_end n = go (goes_on meant.stops) refl

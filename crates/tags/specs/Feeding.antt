@@ -14,7 +14,7 @@ step_in step a room b = roomed step (record { inner = a; left = room }) b
 abbrev pub feed_in : {A : Type 0} → (A → ℕ → Step A) → A → ℕ → List ℕ → feeding.Fed (Roomed A)
 feed_in step a room piece = feed (roomed step) (record { inner = a; left = room }) piece
 
--- The answers: bytes by their number.
+-- The answers: bytes by their number; of a byte at fault only the fault.
 abbrev pub taken_by : {A : Type 0} → Option Fault → Step (Roomed A) → Result (Taken A) Fault
 taken_by None x = Ok (record { next = x.next.inner; given = length x.gives })
 taken_by (Some f) x = Err f

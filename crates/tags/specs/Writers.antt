@@ -1,11 +1,10 @@
 -- How far a stream is written, as the writer holds it, and an event's step in its terms. Definitions only. That this is
 -- the writing of `grammar` is proved.
-use Rattle.std.specs.Prelude.{Bool, true, false, cond, ◌&&◌, List, [], ◌∷◌, ℕ, ◌-◌, ◌%◌, eqb, ltb, length, Option, Some, None, Result, Ok, Err}
+use Rattle.std.specs.Prelude.{Bool, true, false, cond, ◌&&◌, List, [], ◌∷◌, ℕ, ◌-◌, ◌%◌, eqb, ltb, length, Option, Some, None}
 use Rattle.meaning.specs.Lent.{on_front}
 use Rattle.answers.specs.declared.Event.{Event}
 use Rattle.answers.specs.declared.Event.TheVariants as event
 use Rattle.answers.specs.Bytes.{meaning_of}
-use Rattle.grammar.specs.declared.Fault.{Fault}
 use Rattle.grammar.specs.declared.Fault.TheVariants as fault
 use Rattle.grammar.specs.Bytes.{less, slash, greater}
 use Rattle.grammar.specs.Tags as tags
@@ -17,7 +16,8 @@ use Rattle.tags.specs.declared.writer.Form.{Form}
 use Rattle.tags.specs.declared.writer.Form.TheVariants as form
 use Rattle.tags.specs.declared.writer.Tag.{Tag}
 use Rattle.tags.specs.declared.writer.Spelled.{Spelled}
-use Rattle.tags.specs.declared.writer.Followed.{Followed}
+use Rattle.tags.specs.declared.writer.Follower.{Follower}
+use Rattle.tags.specs.declared.feeding.Fed.{Fed}
 use Rattle.names.specs.Words.{spelt, word_at, is_label}
 use Rattle.tags.specs.Feeding.{feed_in}
 use Rattle.tags.specs.Levels.{no_levels, deeper_by, shallower, newest_of}
@@ -111,6 +111,14 @@ abbrev pub less_by : Option ℕ → ℕ → Option ℕ
 less_by None n = None
 less_by (Some room) n = left_of room n
 
+-- A step that is only followed.
+abbrev pub follower_by : Follower → Option Spelled → feeding.Step Follower
+follower_by p None = feeding.stopped p fault.Byte
+follower_by p (Some x) = feeding.stepped (record { scribe = x.next; left = less_by p.left (length (gives_by x.tag)) }) []
+
+abbrev pub follower_step : List ℕ → Follower → ℕ → feeding.Step Follower
+follower_step names p b = follower_by p (spell_step names p.scribe b)
+
 -- Events from a scribe, and the same with room for so many bytes.
 abbrev pub follow_in : List ℕ → Scribe → List ℕ → feeding.Fed Scribe
 follow_in names s events = feeding.feed (scribe_step names) s events
@@ -118,9 +126,10 @@ follow_in names s events = feeding.feed (scribe_step names) s events
 abbrev pub write_in : List ℕ → Scribe → ℕ → List ℕ → feeding.Fed (feeding.Roomed Scribe)
 write_in names s room piece = feed_in (scribe_step names) s room piece
 
--- The answer: bytes by their number.
-abbrev pub follow_of : ℕ → feeding.Fed Scribe → Followed
-follow_of room f = record { next = f.state; taken = f.taken; left = left_of room (length f.gives); stop = f.stops }
+-- What following answers: bytes by what they leave of the room.
+abbrev pub follow_of : ℕ → feeding.Fed Scribe → Fed Follower
+follow_of room f =
+    record { next = record { scribe = f.state; left = left_of room (length f.gives) }; taken = f.taken; given = 0; stop = f.stops }
 
 -- The output after a piece: its tags from the front, and nothing else changed.
 abbrev pub written_out : List ℕ → Scribe → List ℕ → List ℕ → List ℕ

@@ -23,6 +23,7 @@ pub struct Fed<S> {
     pub stop: Option<Fault>,
 }
 
+// What takes bytes one by one, and gives others.
 pub trait Steps: Copy {
     // What becomes of a byte, by the list of names.
     ghost step: { List ℕ → Self → ℕ → Step Self };

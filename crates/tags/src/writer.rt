@@ -5,7 +5,7 @@ ghost use Rattle.meaning.specs.Lent.{put_at};
 ghost use Rattle.grammar.specs.Feeding.{goes_on};
 ghost use Rattle.grammar.specs.Writing.{write_answer, write_out};
 ghost use Rattle.tags.specs.Feeding.{fed_of};
-ghost use Rattle.tags.specs.Writers.{begin, written, ended, has_name, head_of, tail_of, tag_bytes, open_event, point_event, close_event, close_of_event, event_step, spell_step, scribe_step, gives_by, less_by, follow_in, follow_of, write_in, written_out};
+ghost use Rattle.tags.specs.Writers.{begin, written, ended, has_name, head_of, tail_of, tag_bytes, open_event, point_event, close_event, close_of_event, event_step, spell_step, scribe_step, gives_by, less_by, follower_step, follow_in, follow_of, write_in, written_out};
 
 use crate::feeding;
 use crate::feeding::{Steps, Taken};
@@ -42,14 +42,11 @@ pub struct Spelled {
     pub tag: Option<Tag>,
 }
 
-// Where events lead without being written: how many are taken, what room their tags leave, if they fit, and whether the next
-// stops them.
+// A scribe whose tags are not written, and what they leave of the room, if they fit.
 #[derive(Clone, Copy)]
-struct Followed {
-    pub next: Scribe,
-    pub taken: usize,
-    pub left: Option<usize>,
-    pub stop: Option<Fault>,
+struct Follower {
+    scribe: Scribe,
+    left: Option<usize>,
 }
 
 // What a piece of a stream comes to: what is taken are its events, and what is given are bytes of tags.
@@ -278,44 +275,45 @@ fn less(left: Option<usize>, bytes: usize) -> Option<usize>
     left?.checked_sub(bytes)
 }
 
-// The events, up to the first at fault, without writing their tags. It is no twin of `feeding::feed`: where the room ends it
-// goes on, since a stream that is not whole is told before one that does not fit.
-fn follow(names: &[u8], scribe: Scribe, events: &[u8], room: usize) -> Followed
-    ensures { result ≡ follow_of room (follow_in names.now scribe events.now) }
-{
-    let mut next = scribe;
-    let mut left = Some(room);
-    for (taken, &event) in events.iter().enumerate() {
-        match spell(names, next, event) {
-            Some(spelled) => {
-                left = less(left, spelled.length());
-                next = spelled.next;
-            }
-            None => {
-                return Followed {
-                    next,
-                    taken,
-                    left,
-                    stop: Some(Fault::Byte),
-                };
-            }
-        }
-    }
-    Followed {
-        next,
-        taken: events.len(),
-        left,
-        stop: None,
+// Where the room ends it goes on, since a stream that is not whole is told before one that does not fit.
+impl Steps for Follower {
+    ghost step = { follower_step };
+
+    fn take(
+        self,
+        names: &[u8],
+        byte: u8,
+        _room: usize,
+        _out: &mut [u8],
+        _at: usize,
+    ) -> Result<Taken<Follower>, Fault> {
+        let spelled = spell(names, self.scribe, byte).ok_or(Fault::Byte)?;
+        Ok(Taken {
+            next: Follower {
+                scribe: spelled.next,
+                left: less(self.left, spelled.length()),
+            },
+            given: 0,
+        })
     }
 }
 
-impl Followed {
-    // The events are a whole stream.
-    fn whole(self) -> bool
-        ensures { result ≡ goes_on self.stop && self.next.ended }
-    {
-        self.stop.is_none() && self.next.ended
-    }
+// The events, up to the first at fault, without writing their tags.
+fn follow(names: &[u8], scribe: Scribe, events: &[u8], room: usize) -> feeding::Fed<Follower>
+    ensures { result ≡ follow_of room (follow_in names.now scribe events.now) }
+{
+    let follower = Follower {
+        scribe,
+        left: Some(room),
+    };
+    feeding::feed(names, follower, events, 0, &mut [])
+}
+
+// The events are a whole stream.
+fn whole(all: feeding::Fed<Follower>) -> bool
+    ensures { result ≡ goes_on all.stop && all.next.scribe.ended }
+{
+    all.stop.is_none() && all.next.scribe.ended
 }
 
 // The tags of a piece of a stream, from the output's front: up to the first event at fault, or without room for its tag.
@@ -337,10 +335,10 @@ pub fn write(names: &[u8], events: &[u8], out: &mut [u8]) -> Result<usize, Write
     }
     let scribe = Scribe::begin();
     let all = follow(names, scribe, events, out.len());
-    if !all.whole() {
+    if !whole(all) {
         return Err(WriteError::Stream(all.taken));
     }
-    if all.left.is_none() {
+    if all.next.left.is_none() {
         return Err(WriteError::Short);
     }
     let wrote = put_events(names, scribe, events, out);
