@@ -29,6 +29,7 @@ slash = 47
 abbrev pub greater : ℕ
 greater = 62
 
+-- The class of a byte, by the first of these tests that it passes.
 abbrev pub class_of : ℕ → Class
 class_of b =
     cond (is_blank b) class.Blank
