@@ -1,4 +1,5 @@
 -- Blanks between tags change nothing that is read. Assumes nothing.
+use Rattle.std.proofs.Common.{Option, Some, None}
 use mathlib.Core.Path.{◌≡◌, refl, sym}
 use mathlib.Core.Bool.{true, cond}
 use mathlib.Core.List.{List, [], ◌∷◌, ◌++◌}
@@ -6,8 +7,7 @@ use Prim.Native.Nat.{ℕ, ◌+◌}
 use native.Mathlib.Omega.{arith}
 use lib.ListN.{length}
 use borrow.Author.Tests.{le-ltb}
-use Rattle.grammar.specs.declared.Stop.{Stop}
-use Rattle.grammar.specs.declared.Stop.TheVariants.{Not, At}
+use Rattle.grammar.specs.declared.Fault.{Fault}
 use Rattle.grammar.specs.Bytes.{is_blank}
 use Rattle.grammar.specs.Names.{lines_of}
 use Rattle.grammar.specs.Tags.{Tag, Holds, Text, Begun}
@@ -49,13 +49,13 @@ module _ (ns : List (List ℕ)) (room : ℕ) (b : ℕ) (blank : is_blank b ≡ t
       → read_fed ns room (u ++ (b ∷ v)) ≡ after [] (cond (goes_on (read_fed ns room u).stops) 1 0) (read_fed ns room (u ++ v))
   blanks_change_nothing {u} v h = go (read_fed ns room u).stops refl
     where
-      go : (x : Stop) → (read_fed ns room u).stops ≡ x
+      go : (x : Option Fault) → (read_fed ns room u).stops ≡ x
           → read_fed ns room (u ++ (b ∷ v)) ≡ after [] (cond (goes_on (read_fed ns room u).stops) 1 0) (read_fed ns room (u ++ v))
-      go Not e =
+      go None e =
           let g = read_good {ns = ns} room u e in
           let none : (read_fed ns room u).state.inner.begun ≡ Begun.nothing = nothing_begun h g.holds g.parts g.begun in
           rw e (blank_after u v (good_read (rw none at g)))
-      go (At k) e =
+      go (Some k) e =
           rw (
             e,
             feed_pieces (roomed (read_step ns)) (record { inner = fresh; left = room }) u (b ∷ v),

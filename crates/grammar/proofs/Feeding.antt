@@ -1,4 +1,6 @@
 -- Laws of bytes fed step by step: in pieces as at once, and with room. Assumes nothing.
+use Rattle.std.proofs.lemmas.Option.{none-some}
+use Rattle.std.proofs.Common.{Option, Some, None}
 use mathlib.Core.Path.{◌≡◌, refl, sym, ap, ◌∙◌}
 use mathlib.Core.Bool.{Bool, true, false, cond}
 use mathlib.Core.List.{List, [], ◌∷◌, ◌++◌, append-nil, append_assoc}
@@ -10,8 +12,6 @@ use lib.ListN.{length, length-append}
 use borrow.Author.Tests.{le-ltb, lt-ltb}
 use Rattle.grammar.specs.declared.Fault.{Fault}
 use Rattle.grammar.specs.declared.Fault.TheVariants as fault
-use Rattle.grammar.specs.declared.Stop.{Stop}
-use Rattle.grammar.specs.declared.Stop.TheVariants.{Not, At}
 use Rattle.grammar.specs.Feeding.{Step, goes_on, stopped, stepped, Fed, after, feed, Roomed, roomed}
 
 -- What one piece and then the next come to: the next counts only where the first went on.
@@ -49,14 +49,14 @@ feed_pieces step a (b ∷ s) t = go (goes_on (step a b).stops) refl (feed_pieces
 
 -- n bytes that were all taken.
 abbrev pub went : {A : Type 0} → List ℕ → ℕ → A → Fed A
-went out n a = record { gives = out; taken = n; state = a; stops = Not }
+went out n a = record { gives = out; taken = n; state = a; stops = None }
 
 -- A byte at fault after n that were taken.
 abbrev pub broke : {A : Type 0} → List ℕ → ℕ → A → Fault → Fed A
-broke out n a k = record { gives = out; taken = n; state = a; stops = At k }
+broke out n a k = record { gives = out; taken = n; state = a; stops = Some k }
 
-pub not_at : {P : Type 0} (k : Fault) → Not ≡ At k → P
-not_at k e = let z : ◌≡◌ {A = ℕ} 0 1 = cc in absurd (omega arith)
+pub no_fault : {P : Type 0} (k : Fault) → None ≡ Some k → P
+no_fault k e = absurd (none-some k e)
 
 pub one_more : (n : ℕ) → 1 + n ≡ suc n
 one_more n = omega arith
@@ -66,7 +66,7 @@ module _ {A : Type 0} (step : A → ℕ → Step A) where
       → feed step a (b ∷ s) ≡ after out 1 (feed step a' s)
   feed_on a a' out b s e = rw e
 
-  pub feed_stop : (a : A) (k : Fault) (b : ℕ) (s : List ℕ) → (step a b).stops ≡ At k → feed step a (b ∷ s) ≡ broke [] 0 a k
+  pub feed_stop : (a : A) (k : Fault) (b : ℕ) (s : List ℕ) → (step a b).stops ≡ Some k → feed step a (b ∷ s) ≡ broke [] 0 a k
   feed_stop a k b s e = rw e
 
   -- After a piece that was taken.
@@ -82,7 +82,7 @@ module _ {A : Type 0} (step : A → ℕ → Step A) where
 
   -- A piece that was taken, and then a byte at fault.
   pub feed_break : (a a' : A) (out : List ℕ) (n : ℕ) (k : Fault) (s : List ℕ) (b : ℕ) (t : List ℕ)
-      → feed step a s ≡ went out n a' → (step a' b).stops ≡ At k → feed step a (s ++ (b ∷ t)) ≡ broke out n a' k
+      → feed step a s ≡ went out n a' → (step a' b).stops ≡ Some k → feed step a (s ++ (b ∷ t)) ≡ broke out n a' k
   feed_break a a' out n k s b t e h = rw (feed_then a a' out n s (b ∷ t) e, feed_stop a' k b t h, append-nil out, add-zero n)
 
 -- Where bytes broke off: at the byte of this place.
@@ -92,25 +92,25 @@ pub record Broken {A : Type 0} (step : A → ℕ → Step A) (a : A) (s : List �
   pub rest : List ℕ
   pub parts : s ≡ before ++ (byte ∷ rest)
   pub on : feed step a before ≡ went (feed step a s).gives (length before) (feed step a s).state
-  pub at : (step (feed step a s).state byte).stops ≡ At k
+  pub at : (step (feed step a s).state byte).stops ≡ Some k
   pub place : (feed step a s).taken ≡ length before
 
 module _ {A : Type 0} (step : A → ℕ → Step A) where
   -- Where no byte is at fault, each is taken.
-  pub all_taken : (a : A) (s : List ℕ) → (feed step a s).stops ≡ Not
+  pub all_taken : (a : A) (s : List ℕ) → (feed step a s).stops ≡ None
       → feed step a s ≡ went (feed step a s).gives (length s) (feed step a s).state
   all_taken a [] e = refl
   all_taken a (b ∷ s) e = go (step a b).stops refl (all_taken (step a b).next s)
     where
-      go : (x : Stop) → (step a b).stops ≡ x
-          → ((feed step (step a b).next s).stops ≡ Not
+      go : (x : Option Fault) → (step a b).stops ≡ x
+          → ((feed step (step a b).next s).stops ≡ None
           → feed step (step a b).next s
           ≡ went (feed step (step a b).next s).gives (length s) (feed step (step a b).next s).state)
           → feed step a (b ∷ s) ≡ went (feed step a (b ∷ s)).gives (suc (length s)) (feed step a (b ∷ s)).state
-      go Not h ih = rw (h, ih (rw h at e), one_more (length s))
-      go (At k) h ih = not_at k (sym (rw h at e))
+      go None h ih = rw (h, ih (rw h at e), one_more (length s))
+      go (Some k) h ih = no_fault k (sym (rw h at e))
 
-  broken_later : (a : A) (b : ℕ) (s : List ℕ) (k : Fault) → (step a b).stops ≡ Not → Broken step (step a b).next s k → Broken step a (b ∷ s) k
+  broken_later : (a : A) (b : ℕ) (s : List ℕ) (k : Fault) → (step a b).stops ≡ None → Broken step (step a b).next s k → Broken step a (b ∷ s) k
   broken_later a b s k h i =
       record {
         before = b ∷ i.before;
@@ -122,14 +122,14 @@ module _ {A : Type 0} (step : A → ℕ → Step A) where
         place = rw (h, i.place, one_more (length i.before));
       }
 
-  pub where_broken : (a : A) (s : List ℕ) (k : Fault) → (feed step a s).stops ≡ At k → Broken step a s k
-  where_broken a [] k e = not_at k e
+  pub where_broken : (a : A) (s : List ℕ) (k : Fault) → (feed step a s).stops ≡ Some k → Broken step a s k
+  where_broken a [] k e = no_fault k e
   where_broken a (b ∷ s) k e = go (step a b).stops refl (where_broken (step a b).next s k)
     where
-      go : (x : Stop) → (step a b).stops ≡ x → ((feed step (step a b).next s).stops ≡ At k → Broken step (step a b).next s k)
+      go : (x : Option Fault) → (step a b).stops ≡ x → ((feed step (step a b).next s).stops ≡ Some k → Broken step (step a b).next s k)
           → Broken step a (b ∷ s) k
-      go Not h ih = broken_later a b s k h (ih (rw h at e))
-      go (At j) h ih =
+      go None h ih = broken_later a b s k h (ih (rw h at e))
+      go (Some j) h ih =
           record { before = []; byte = b; rest = s; parts = refl; on = rw h; at = rw h (h ∙ (rw h at e)); place = rw h }
 
 -- Room
@@ -141,16 +141,16 @@ with_room r f =
 
 module _ {A : Type 0} (step : A → ℕ → Step A) (a : A) (r b : ℕ) where
   -- A byte, where there is room for what it gives, where there is not, and where it is at fault itself.
-  pub roomed_fits : (step a b).stops ≡ Not → length (step a b).gives ≤ r
+  pub roomed_fits : (step a b).stops ≡ None → length (step a b).gives ≤ r
       → roomed step (record { inner = a; left = r }) b
       ≡ stepped (record { inner = (step a b).next; left = r - length (step a b).gives }) (step a b).gives
   roomed_fits h l = rw (h, le-ltb r (length (step a b).gives) l)
 
-  pub roomed_short : (step a b).stops ≡ Not → r < length (step a b).gives
+  pub roomed_short : (step a b).stops ≡ None → r < length (step a b).gives
       → roomed step (record { inner = a; left = r }) b ≡ stopped (record { inner = a; left = r }) fault.Short
   roomed_short h l = rw (h, lt-ltb r (length (step a b).gives) l)
 
-  pub roomed_stop : (k : Fault) → (step a b).stops ≡ At k → (roomed step (record { inner = a; left = r }) b).stops ≡ At k
+  pub roomed_stop : (k : Fault) → (step a b).stops ≡ Some k → (roomed step (record { inner = a; left = r }) b).stops ≡ Some k
   roomed_stop k h = rw h
 
 -- Where all fits, what comes after the first part fits in the room that the first part leaves.
@@ -174,34 +174,34 @@ module _ {A : Type 0} (step : A → ℕ → Step A) where
           ≡ r - length ((step a b).gives ++ (feed step (step a b).next s).gives)
       rest = rw length-append (omega arith)
 
-      go : (x : Stop) → (step a b).stops ≡ x
+      go : (x : Option Fault) → (step a b).stops ≡ x
           → (length (feed step (step a b).next s).gives ≤ r - length (step a b).gives
           → feed (roomed step) (record { inner = (step a b).next; left = r - length (step a b).gives }) s
           ≡ with_room (r - length (step a b).gives) (feed step (step a b).next s))
           → feed (roomed step) (record { inner = a; left = r }) (b ∷ s) ≡ with_room r (feed step a (b ∷ s))
-      go Not h ih =
+      go None h ih =
           let m : length ((step a b).gives ++ (feed step (step a b).next s).gives) ≤ r = rw h at l in
           rw (roomed_fits step a r b h (first m), h, ih (rest_fits r (step a b).gives (feed step (step a b).next s).gives m), rest)
-      go (At k) h ih = feed_stop (roomed step) (record { inner = a; left = r }) k b s (roomed_stop step a r b k h) ∙ rw (h, none_less r)
+      go (Some k) h ih = feed_stop (roomed step) (record { inner = a; left = r }) k b s (roomed_stop step a r b k h) ∙ rw (h, none_less r)
 
   -- Bytes that are all taken with room are taken without, and what they give fits.
-  pub room_inner : (a : A) (r : ℕ) (s : List ℕ) → (feed (roomed step) (record { inner = a; left = r }) s).stops ≡ Not
-      → ((feed step a s).stops ≡ Not) × (length (feed step a s).gives ≤ r)
+  pub room_inner : (a : A) (r : ℕ) (s : List ℕ) → (feed (roomed step) (record { inner = a; left = r }) s).stops ≡ None
+      → ((feed step a s).stops ≡ None) × (length (feed step a s).gives ≤ r)
   room_inner a r [] e = (refl, omega arith)
   room_inner a r (b ∷ s) e = go (step a b).stops refl (room_inner (step a b).next (r - length (step a b).gives) s)
     where
-      go : (x : Stop) → (step a b).stops ≡ x
-          → ((feed (roomed step) (record { inner = (step a b).next; left = r - length (step a b).gives }) s).stops ≡ Not
-          → ((feed step (step a b).next s).stops ≡ Not) × (length (feed step (step a b).next s).gives ≤ r - length (step a b).gives))
-          → ((feed step a (b ∷ s)).stops ≡ Not) × (length (feed step a (b ∷ s)).gives ≤ r)
-      go Not h ih = fits (dec_le (length (step a b).gives) r)
+      go : (x : Option Fault) → (step a b).stops ≡ x
+          → ((feed (roomed step) (record { inner = (step a b).next; left = r - length (step a b).gives }) s).stops ≡ None
+          → ((feed step (step a b).next s).stops ≡ None) × (length (feed step (step a b).next s).gives ≤ r - length (step a b).gives))
+          → ((feed step a (b ∷ s)).stops ≡ None) × (length (feed step a (b ∷ s)).gives ≤ r)
+      go None h ih = fits (dec_le (length (step a b).gives) r)
         where
-          fits : Dec (length (step a b).gives ≤ r) → ((feed step a (b ∷ s)).stops ≡ Not) × (length (feed step a (b ∷ s)).gives ≤ r)
+          fits : Dec (length (step a b).gives ≤ r) → ((feed step a (b ∷ s)).stops ≡ None) × (length (feed step a (b ∷ s)).gives ≤ r)
           fits (yes l) =
               let i = ih (rw (roomed_fits step a r b h l) at e) in
               rw h (i.0, rw length-append (omega (arith, i.1)))
-          fits (no l) = not_at fault.Short (sym (rw (roomed_short step a r b h (omega arith)) at e))
-      go (At k) h ih = not_at k (sym (rw h at e))
+          fits (no l) = no_fault fault.Short (sym (rw (roomed_short step a r b h (omega arith)) at e))
+      go (Some k) h ih = no_fault k (sym (rw h at e))
 
 -- Pieces, one after another, as one list.
 abbrev pub joined : List (List ℕ) → List ℕ

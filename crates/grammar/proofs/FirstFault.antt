@@ -1,5 +1,7 @@
 -- The first place at fault is where the reader stops, and it stops by the kind that applies there first; and the other
 -- way round. Assumes nothing.
+use Rattle.std.proofs.lemmas.Option.{same_Some}
+use Rattle.std.proofs.Common.{Option, Some, None}
 use mathlib.Core.Path.{◌≡◌, refl, sym, ap, subst, ◌∙◌}
 use mathlib.Core.Bool.{Bool, true, false}
 use mathlib.Core.List.{List, [], ◌∷◌, ◌++◌, append-nil, append_assoc}
@@ -13,15 +15,13 @@ use borrow.Author.Tests.{le-ltb, eqb-true, ltb-false}
 use Rattle.meaning.proofs.Tests.{true_T}
 use Rattle.grammar.specs.declared.Fault.{Fault}
 use Rattle.grammar.specs.declared.Fault.TheVariants as fault
-use Rattle.grammar.specs.declared.Stop.{Stop}
-use Rattle.grammar.specs.declared.Stop.TheVariants.{Not, At}
 use Rattle.grammar.specs.Bytes.{greater}
 use Rattle.grammar.specs.Names.{is_name, place_of}
 use Rattle.grammar.specs.Tags.{Tag, name_of, tag_text, Holds, Nested, Begun, begun_text, is_begun}
 use Rattle.grammar.specs.Feeding.{Step, stepped, Fed, Roomed, roomed}
 use Rattle.grammar.specs.Reading.{Next, extend, Place, fresh, between, close, closed, read_step, read_fed, text_stop}
 use Rattle.grammar.specs.Faults.{Begins, Good, Whole, Faulty}
-use Rattle.grammar.proofs.Feeding.{broke, not_at, feed_break, roomed_fits, roomed_short, roomed_stop, Broken, where_broken}
+use Rattle.grammar.proofs.Feeding.{broke, no_fault, feed_break, roomed_fits, roomed_short, roomed_stop, Broken, where_broken}
 use Rattle.grammar.proofs.Tagging.{all_but, all_but_text}
 use Rattle.grammar.proofs.ReadingTags.{placed, holds_append, label_judged, nested_judged}
 use Rattle.grammar.proofs.Lexing.{no_begins, whole_extends}
@@ -74,7 +74,7 @@ module _ {ns : List (List ℕ)} {r : ℕ} {u o es : List ℕ} {q : Begun} where
 
 -- The reader stops at place i, by the kind k.
 pub record StopsAt (ns : List (List ℕ)) (room : ℕ) (s : List ℕ) (k : Fault) (i : ℕ) : Type 0 where
-  pub stop : text_stop (read_fed ns room s) ≡ At k
+  pub stop : text_stop (read_fed ns room s) ≡ Some k
   pub place : (read_fed ns room s).taken ≡ i
 
 -- A tag gives one event.
@@ -83,16 +83,16 @@ one_event (Nested.opening l d Nested.nothing) = refl
 one_event (Nested.empty l Nested.nothing) = refl
 one_event (Nested.closing l Nested.nothing) = refl
 
-closes_another_lem : (p : Place) (a : ℕ) (o : List ℕ) → ((o' : List ℕ) → ¬ (o ≡ a ∷ o')) → (close p a o).stops ≡ At fault.Closing
+closes_another_lem : (p : Place) (a : ℕ) (o : List ℕ) → ((o' : List ℕ) → ¬ (o ≡ a ∷ o')) → (close p a o).stops ≡ Some fault.Closing
 closes_another_lem p a [] n = refl
 closes_another_lem p a (c ∷ o) n = go (eqb a c) refl
   where
-    go : (x : Bool) → eqb a c ≡ x → (close p a (c ∷ o)).stops ≡ At fault.Closing
+    go : (x : Bool) → eqb a c ≡ x → (close p a (c ∷ o)).stops ≡ Some fault.Closing
     go true h = absurd (n o (ap (λ (d : ℕ). d ∷ o) (sym (eqb-true a c h))))
     go false h = rw h
 
 module _ {ns : List (List ℕ)} {room : ℕ} {u o es : List ℕ} {q : Begun} (g : Good ns room u q o es) (b : ℕ) (v : List ℕ) where
-  stops_here : (k : Fault) → (roomed (read_step ns) (record { inner = placed q o; left = room - length es }) b).stops ≡ At k
+  stops_here : (k : Fault) → (roomed (read_step ns) (record { inner = placed q o; left = room - length es }) b).stops ≡ Some k
       → StopsAt ns room (u ++ (b ∷ v)) k (length u)
   stops_here k h =
       let f : read_fed ns room (u ++ (b ∷ v)) ≡ broke es (length u) (record { inner = placed q o; left = room - length es }) k =
@@ -100,7 +100,7 @@ module _ {ns : List (List ℕ)} {room : ℕ} {u o es : List ℕ} {q : Begun} (g 
       es (length u) k u b v (good_read g) h in
       record { stop = rw f; place = rw f }
 
-  stops_itself : (k : Fault) → (read_step ns (placed q o) b).stops ≡ At k → StopsAt ns room (u ++ (b ∷ v)) k (length u)
+  stops_itself : (k : Fault) → (read_step ns (placed q o) b).stops ≡ Some k → StopsAt ns room (u ++ (b ∷ v)) k (length u)
   stops_itself k h = stops_here k (roomed_stop (read_step ns) (placed q o) (room - length es) b k h)
 
 pub faulty_stops : {ns : List (List ℕ)} {room i : ℕ} {s : List ℕ} {k : Fault} → Faulty ns room s k i → StopsAt ns room s k i
@@ -131,26 +131,23 @@ faulty_stops {ns} {room} {s = s} (Faulty.end_short {es = es} g e) =
 
 -- The other way round
 
-pub same_fault : {j k : Fault} → At j ≡ At k → j ≡ k
-same_fault e = cc
-
 not_closed : {p : Place} → p.begun ≡ Begun.nothing → p.levels ≡ [] → closed p ≡ false → ⊥
 not_closed e f h = true_T {b = false} (sym (rw (e, f) at h))
 
 -- A byte at which the reader stops, after a good text.
 module _ {ns : List (List ℕ)} {room : ℕ} {u o es : List ℕ} {q : Begun} (g : Good ns room u q o es) (b : ℕ) (v : List ℕ) {k : Fault}
-    (stops : (roomed (read_step ns) (record { inner = placed q o; left = room - length es }) b).stops ≡ At k) where
+    (stops : (roomed (read_step ns) (record { inner = placed q o; left = room - length es }) b).stops ≡ Some k) where
   -- A byte for which there is room goes on.
-  fits_not : {P : Type 0} → (read_step ns (placed q o) b).stops ≡ Not → length (read_step ns (placed q o) b).gives ≤ room - length es → P
+  fits_not : {P : Type 0} → (read_step ns (placed q o) b).stops ≡ None → length (read_step ns (placed q o) b).gives ≤ room - length es → P
   fits_not h l =
-      not_at k (sym (ap (λ (x : Step (Roomed Place)). x.stops) (roomed_fits (read_step ns) (placed q o) (room - length es) b h l)) ∙ stops)
+      no_fault k (sym (ap (λ (x : Step (Roomed Place)). x.stops) (roomed_fits (read_step ns) (placed q o) (room - length es) b h l)) ∙ stops)
 
   -- A byte that is at fault itself.
-  itself : (j : Fault) → (read_step ns (placed q o) b).stops ≡ At j → j ≡ k
-  itself j h = same_fault (sym (roomed_stop (read_step ns) (placed q o) (room - length es) b j h) ∙ stops)
+  itself : (j : Fault) → (read_step ns (placed q o) b).stops ≡ Some j → j ≡ k
+  itself j h = same_Some _ _ (sym (roomed_stop (read_step ns) (placed q o) (room - length es) b j h) ∙ stops)
 
-  no_room : (read_step ns (placed q o) b).stops ≡ Not → room - length es < length (read_step ns (placed q o) b).gives → fault.Short ≡ k
-  no_room h l = same_fault (sym (ap (λ (x : Step (Roomed Place)). x.stops) (roomed_short (read_step ns) (placed q o) (room - length es) b h l)) ∙ stops)
+  no_room : (read_step ns (placed q o) b).stops ≡ None → room - length es < length (read_step ns (placed q o) b).gives → fault.Short ≡ k
+  no_room h l = same_Some _ _ (sym (ap (λ (x : Step (Roomed Place)). x.stops) (roomed_short (read_step ns) (placed q o) (room - length es) b h l)) ∙ stops)
 
   stop_fault : {x : Step Place} → read_step ns (placed q o) b ≡ x → Verdict ns q o b x → Faulty ns room (u ++ (b ∷ v)) k (length u)
   stop_fault e (Verdict.blank f h) = fits_not (rw e) (rw e (omega arith))
@@ -173,30 +170,30 @@ module _ (ns : List (List ℕ)) (room : ℕ) (s : List ℕ) {k : Fault} where
       let p = (read_fed ns room s).state.inner in
       let g : Good ns room w.before (read_fed ns room s).state.inner.begun (read_fed ns room s).state.inner.levels (read_fed ns room s).gives =
       rw w.on at (read_good {ns = ns} room w.before (ap (λ (f : Fed (Roomed Place)). f.stops) w.on)) in
-      let stops : (roomed (read_step ns) (record { inner = p; left = room - length (read_fed ns room s).gives }) w.byte).stops ≡ At k =
-      subst (λ (r : Roomed Place). (roomed (read_step ns) r w.byte).stops ≡ At k)
+      let stops : (roomed (read_step ns) (record { inner = p; left = room - length (read_fed ns room s).gives }) w.byte).stops ≡ Some k =
+      subst (λ (r : Roomed Place). (roomed (read_step ns) r w.byte).stops ≡ Some k)
       (ap (λ (f : Fed (Roomed Place)). f.state) (sym w.on ∙ good_read g)) w.at in
       let fault : Faulty ns room (w.before ++ (w.byte ∷ w.rest)) k (length w.before) =
       stop_fault g w.byte w.rest stops refl (verdict ns p.begun w.byte p.levels g.begun) in
       rw w.place (subst (λ (t : List ℕ). Faulty ns room t k (length w.before)) (sym w.parts) fault)
 
-  pub stops_faulty : text_stop (read_fed ns room s) ≡ At k → Faulty ns room s k (read_fed ns room s).taken
+  pub stops_faulty : text_stop (read_fed ns room s) ≡ Some k → Faulty ns room s k (read_fed ns room s).taken
   stops_faulty e = go (read_fed ns room s).stops refl
     where
-      all : (read_fed ns room s).stops ≡ Not → (read_fed ns room s).taken ≡ length s
+      all : (read_fed ns room s).stops ≡ None → (read_fed ns room s).taken ≡ length s
       all h = ap (λ (f : Fed (Roomed Place)). f.taken) (good_read (read_good {ns = ns} room s h))
 
-      last : (read_fed ns room s).stops ≡ Not → (x : Bool) → closed (read_fed ns room s).state.inner ≡ x
+      last : (read_fed ns room s).stops ≡ None → (x : Bool) → closed (read_fed ns room s).state.inner ≡ x
           → (y : Bool) → ltb 0 (read_fed ns room s).state.left ≡ y → Faulty ns room s k (read_fed ns room s).taken
-      last h true c true l = not_at k (rw (h, c, l) at e)
+      last h true c true l = no_fault k (rw (h, c, l) at e)
       last h true c false l =
           let g = ended_good ns room s h (closed_place (read_fed ns room s).state.inner c) in
-          rw (← same_fault (rw (h, c, l) at e), all h)
+          rw (← same_Some _ _ (rw (h, c, l) at e), all h)
           (Faulty.end_short g (omega (arith, left_over_lem ns room s h, ltb-false 0 (read_fed ns room s).state.left l, g.fits)))
       last h false c y l =
-          rw (← same_fault (rw (h, c) at e), all h)
+          rw (← same_Some _ _ (rw (h, c) at e), all h)
           (Faulty.ended (read_good room s h) (λ p. not_closed p.0 p.1 c))
 
-      go : (x : Stop) → (read_fed ns room s).stops ≡ x → Faulty ns room s k (read_fed ns room s).taken
-      go Not h = last h (closed (read_fed ns room s).state.inner) refl (ltb 0 (read_fed ns room s).state.left) refl
-      go (At j) h = broken_faulty (where_broken (roomed (read_step ns)) (record { inner = fresh; left = room }) s k (h ∙ (rw h at e)))
+      go : (x : Option Fault) → (read_fed ns room s).stops ≡ x → Faulty ns room s k (read_fed ns room s).taken
+      go None h = last h (closed (read_fed ns room s).state.inner) refl (ltb 0 (read_fed ns room s).state.left) refl
+      go (Some j) h = broken_faulty (where_broken (roomed (read_step ns)) (record { inner = fresh; left = room }) s k (h ∙ (rw h at e)))

@@ -1,17 +1,17 @@
 -- Tags told apart with no regard to names and nesting, by a step that only collects them: what a text holds, it holds in
 -- one way. Assumes nothing.
+use Rattle.std.proofs.Common.{Some, None}
 use mathlib.Core.Path.{◌≡◌, refl, sym, ap, ◌∙◌}
 use mathlib.Core.Bool.{true}
 use mathlib.Core.List.{List, [], ◌∷◌, ◌++◌, append-nil, append_assoc, nil≢cons, head-eq_of_cons-eq}
 use Prim.Native.Nat.{ℕ}
 use lib.ListN.{length, length-append}
 use Rattle.grammar.specs.declared.Fault.TheVariants as fault
-use Rattle.grammar.specs.declared.Stop.TheVariants.{Not, At}
 use Rattle.grammar.specs.Tags.{Tag, tag_text, Holds, Begun, begun_text, is_begun}
 use Rattle.grammar.specs.Feeding.{Step, stopped, stepped, Fed, after, feed}
 use Rattle.grammar.specs.Reading.{Next, extend}
 use Rattle.grammar.specs.Faults.{Begins, Whole}
-use Rattle.grammar.proofs.Feeding.{went, feed_then, feed_break, went_then, one_more, not_at}
+use Rattle.grammar.proofs.Feeding.{went, feed_then, feed_break, went_then, one_more, no_fault}
 use Rattle.grammar.proofs.Tagging.{begun_on, tag_on}
 
 -- The tag that is begun, and the tags before it.
@@ -72,12 +72,12 @@ pub no_begins : {s : List ℕ} {ts : List Tag} (q : Begun) (b : ℕ) → Holds s
     → ¬ Begins ((s ++ begun_text q) ++ (b ∷ []))
 no_begins {s} {ts} q b h g e k =
     let start = lexed Begun.nothing [] in
-    let on : (feed collect start (((s ++ begun_text q) ++ (b ∷ [])) ++ k.rest)).stops ≡ Not = ap (λ (f : Fed Lexed). f.stops) (collects [] k.holds) in
-    let off : (feed collect start ((s ++ begun_text q) ++ (b ∷ k.rest))).stops ≡ At fault.Byte =
+    let on : (feed collect start (((s ++ begun_text q) ++ (b ∷ [])) ++ k.rest)).stops ≡ None = ap (λ (f : Fed Lexed). f.stops) (collects [] k.holds) in
+    let off : (feed collect start ((s ++ begun_text q) ++ (b ∷ k.rest))).stops ≡ Some fault.Byte =
     ap (λ (f : Fed Lexed). f.stops)
     (feed_break collect start (lexed q ts) [] (length (s ++ begun_text q)) fault.Byte (s ++ begun_text q) b k.rest
     (collects_begun q h g) (rw e)) in
-    not_at fault.Byte (sym (rw (append_assoc (s ++ begun_text q) (b ∷ []) k.rest) at on) ∙ off)
+    no_fault fault.Byte (sym (rw (append_assoc (s ++ begun_text q) (b ∷ []) k.rest) at on) ∙ off)
 
 -- A tag that is whole with a byte is what the byte makes whole.
 pub whole_extends : (q : Begun) (b : ℕ) (t : Tag) → is_begun q ≡ true → Whole q b t → extend q b ≡ Next.whole t
@@ -93,10 +93,10 @@ whole_extends q b t g w = go (extend q b) refl
     tags : (feed collect (lexed q []) (b ∷ [])).state.tags ≡ t ∷ []
     tags = ap (λ (f : Fed Lexed). f.state.tags) fed
 
-    on : (feed collect (lexed q []) (b ∷ [])).stops ≡ Not
+    on : (feed collect (lexed q []) (b ∷ [])).stops ≡ None
     on = ap (λ (f : Fed Lexed). f.stops) fed
 
     go : (x : Next) → extend q b ≡ x → extend q b ≡ Next.whole t
-    go Next.no e = not_at fault.Byte (sym (rw e at on))
+    go Next.no e = no_fault fault.Byte (sym (rw e at on))
     go (Next.more q') e = absurd (nil≢cons (rw e at tags))
     go (Next.whole t') e = e ∙ ap Next.whole (head-eq_of_cons-eq (rw e at tags))

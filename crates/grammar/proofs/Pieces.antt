@@ -1,13 +1,13 @@
 -- Laws of bytes fed in pieces, told by whether they go on: what goes on over all goes on over the front, and a byte after
 -- which nothing goes on is where they stop. Assumes nothing.
+use Rattle.std.proofs.Common.{Option, Some, None}
 use mathlib.Core.Path.{◌≡◌, refl, ap}
 use mathlib.Core.Bool.{Bool, true, false}
 use mathlib.Core.List.{List, [], ◌∷◌, ◌++◌}
 use Prim.Native.Nat.{ℕ, ◌+◌}
 use native.Mathlib.Omega.{arith}
 use lib.ListN.{length}
-use Rattle.grammar.specs.declared.Stop.{Stop}
-use Rattle.grammar.specs.declared.Stop.TheVariants.{Not, At}
+use Rattle.grammar.specs.declared.Fault.{Fault}
 use Rattle.grammar.specs.Feeding.{Step, goes_on, Fed, feed}
 use Rattle.grammar.proofs.Feeding.{then, feed_pieces, all_taken}
 
@@ -19,14 +19,14 @@ pub untrue : (b : Bool) → ¬ (b ≡ true) → b ≡ false
 untrue true n = absurd (n refl)
 untrue false n = refl
 
-on_not : (x : Stop) → goes_on x ≡ true → x ≡ Not
-on_not Not e = refl
-on_not (At k) e = absurd (true_false e refl)
+pub on_none : (x : Option Fault) → goes_on x ≡ true → x ≡ None
+on_none None e = refl
+on_none (Some k) e = absurd (true_false e refl)
 
 module _ {A : Type 0} (step : A → ℕ → Step A) where
   -- What goes on has taken all.
   pub feed_taken : (a : A) (s : List ℕ) → goes_on (feed step a s).stops ≡ true → (feed step a s).taken ≡ length s
-  feed_taken a s e = ap (λ (f : Fed A). f.taken) (all_taken step a s (on_not (feed step a s).stops e))
+  feed_taken a s e = ap (λ (f : Fed A). f.taken) (all_taken step a s (on_none (feed step a s).stops e))
 
   -- What goes on over two pieces goes on over the first.
   pub feed_front : (a : A) (s t : List ℕ) → goes_on (feed step a (s ++ t)).stops ≡ true → goes_on (feed step a s).stops ≡ true

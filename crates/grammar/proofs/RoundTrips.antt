@@ -1,11 +1,10 @@
 -- The round trips of reading and writing. Assumes of the names that they are good, where no answer says so.
+use Rattle.std.proofs.Common.{Ok}
 use mathlib.Core.Path.{◌≡◌, refl, sym, ap, subst, ◌∙◌}
 use mathlib.Core.Bool.{true}
 use mathlib.Core.List.{List, [], ◌++◌}
 use Prim.Native.Nat.{ℕ, ◌≤◌, ◌<◌}
 use lib.ListN.{length, take, drop}
-use Rattle.grammar.specs.declared.Reading.TheVariants as reading
-use Rattle.grammar.specs.declared.Writing.TheVariants as writing
 use Rattle.grammar.specs.Names.{lines_of, good_names}
 use Rattle.grammar.specs.Tags.{tags_text, Holds, Text}
 use Rattle.grammar.specs.Streams.{Stream, labelled}
@@ -62,32 +61,32 @@ pub record SameAgain (names s : List ℕ) (n : ℕ) (out : List ℕ) : Type 0 wh
   pub count : length stream ≡ n
   pub read : read_out names s out ≡ stream ++ drop n out
   pub written : (room : ℕ) → length (text_for names stream) ≤ room
-      → write_answer names stream room ≡ writing.Taken (length (text_for names stream))
+      → write_answer names stream room ≡ Ok (length (text_for names stream))
   pub read_again : (back : List ℕ) → n ≤ length back
-      → (read_answer names (text_for names stream) (length back) ≡ reading.Taken n)
+      → (read_answer names (text_for names stream) (length back) ≡ Ok n)
       × (read_out names (text_for names stream) back ≡ stream ++ drop n back)
 
 module _ (names : List ℕ) where
   -- What is written for a whole stream reads as that stream, each close labelled.
   pub stream_read_back : good_names names ≡ true → {w : List ℕ} → Stream (labels names) w → (back : List ℕ) → length w ≤ length back
-      → (read_answer names (text_for names w) (length back) ≡ reading.Taken (length w))
+      → (read_answer names (text_for names w) (length back) ≡ Ok (length w))
       × (read_out names (text_for names w) back ≡ labelled [] w ++ drop (length w) back)
   stream_read_back good {w} s back h =
       subst (λ (n : ℕ). n ≤ length back
-      → (read_answer names (text_for names w) (length back) ≡ reading.Taken n)
+      → (read_answer names (text_for names w) (length back) ≡ Ok n)
       × (read_out names (text_for names w) back ≡ labelled [] w ++ drop n back))
       (labelled_length [] w) (takes names back good (written_is_text names good s)) h
 
   -- To write a stream and to read what was written gives the same events, each close labelled.
-  pub write_then_read : {n : ℕ} (w out back : List ℕ) → write_answer names w (length out) ≡ writing.Taken n → length w ≤ length back
-      → (read_answer names (take n (write_out names w out)) (length back) ≡ reading.Taken (length w))
+  pub write_then_read : {n : ℕ} (w out back : List ℕ) → write_answer names w (length out) ≡ Ok n → length w ≤ length back
+      → (read_answer names (take n (write_out names w out)) (length back) ≡ Ok (length w))
       × (read_out names (take n (write_out names w out)) back ≡ labelled [] w ++ drop (length w) back)
   write_then_read {n} w out back e h =
       let p = (taken_exactly names w (length out) n).0 e in
       rw (taken_front names w out e) (stream_read_back p.0 p.1 back h)
 
   -- What is read and then written reads the same.
-  pub read_then_write : {n : ℕ} (s out : List ℕ) → read_answer names s (length out) ≡ reading.Taken n → SameAgain names s n out
+  pub read_then_write : {n : ℕ} (s out : List ℕ) → read_answer names s (length out) ≡ Ok n → SameAgain names s n out
   read_then_write {n} s out e =
       let p = taken_text names s out e in
       let t = p.1 in
@@ -100,7 +99,7 @@ module _ (names : List ℕ) where
         written = λ room h. (taken_exactly names t.stream room (length (text_for names t.stream))).1 (p.0, whole, refl, h);
         read_again = λ back h.
             subst (λ (m : ℕ). m ≤ length back
-            → (read_answer names (text_for names t.stream) (length back) ≡ reading.Taken m)
+            → (read_answer names (text_for names t.stream) (length back) ≡ Ok m)
             × (read_out names (text_for names t.stream) back ≡ t.stream ++ drop m back))
             t.count (rw same at (stream_read_back p.0 whole back)) h;
       }

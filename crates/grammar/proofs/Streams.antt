@@ -1,5 +1,6 @@
 -- The writer's steps take exactly the whole streams of depth at most 40, and go on exactly where such a stream does.
 -- Assumes of the names that the list is good.
+use Rattle.std.proofs.Common.{Option, Some, None}
 use mathlib.Core.Path.{◌≡◌, refl, sym, ap, subst, ◌∙◌}
 use mathlib.Core.Bool.{true, false}
 use mathlib.Core.List.{List, [], ◌∷◌, ◌++◌, append_assoc, append-nil}
@@ -8,8 +9,7 @@ use native.Mathlib.Omega.{arith}
 use lib.ListN.{length}
 use Rattle.meaning.proofs.Rows.{AllBelow}
 use Rattle.meaning.proofs.Tests.{both_true}
-use Rattle.grammar.specs.declared.Stop.{Stop}
-use Rattle.grammar.specs.declared.Stop.TheVariants.{Not, At}
+use Rattle.grammar.specs.declared.Fault.{Fault}
 use Rattle.grammar.specs.Tags.{Tag, tags_text, Nested}
 use Rattle.grammar.specs.Streams.{Opens, Stream, GoesOn, Stuck, labelled}
 use Rattle.grammar.specs.Feeding.{goes_on, Fed}
@@ -103,12 +103,12 @@ module _ (ns : List (List ℕ)) (good : GoodList ns) where
   pub refused_stuck : (w : List ℕ) → whole_stream (write_fed ns w) ≡ false → Stuck (length ns) w (write_fed ns w).taken
   refused_stuck w e = go (write_fed ns w).stops refl
     where
-      go : (x : Stop) → (write_fed ns w).stops ≡ x → Stuck (length ns) w (write_fed ns w).taken
-      go Not h =
+      go : (x : Option Fault) → (write_fed ns w).stops ≡ x → Stuck (length ns) w (write_fed ns w).taken
+      go None h =
           let g : goes_on (write_fed ns w).stops ≡ true = rw h in
           rw (feed_taken (write_step ns) unwritten w g)
           (Stuck.ending (went_goes_on ns good w g) (λ s. true_false (stream_whole ns good w s) e))
-      go (At k) h =
+      go (Some k) h =
           let i = where_broken (write_step ns) unwritten w k h in
           let f = write_fed ns w in
           let ends = feed_break (write_step ns) unwritten f.state f.gives (length i.before) k i.before i.byte [] i.on i.at in

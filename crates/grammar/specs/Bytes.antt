@@ -1,5 +1,7 @@
 -- The bytes of tagged text (02, K1). Definitions only.
-use Rattle.std.specs.Prelude.{Bool, not, cond, ◌&&◌, ◌||◌, ℕ, suc, eqb, ltb}
+use Rattle.std.specs.Prelude.{Bool, true, false, not, cond, ◌&&◌, ◌||◌, ℕ, suc, eqb, ltb}
+use Rattle.grammar.specs.declared.Class.{Class}
+use Rattle.grammar.specs.declared.Class.TheVariants as class
 
 -- The byte is one of low to high, both counted.
 abbrev pub within : ℕ → ℕ → ℕ → Bool
@@ -27,12 +29,40 @@ slash = 47
 abbrev pub greater : ℕ
 greater = 62
 
--- The class of a byte: 1 a blank, 2 a letter, 3 another byte of a name, 4 "<", 5 "/", 6 ">", 0 any other.
-abbrev pub class_of : ℕ → ℕ
+-- The class of a byte, by the first of these tests that it passes.
+abbrev pub class_of : ℕ → Class
 class_of b =
-    cond (is_blank b) 1
-    (cond (is_letter b) 2
-    (cond (is_name_byte b) 3
-    (cond (eqb b less) 4
-    (cond (eqb b slash) 5
-    (cond (eqb b greater) 6 0)))))
+    cond (is_blank b) class.Blank
+    (cond (is_letter b) class.Letter
+    (cond (is_name_byte b) class.Name
+    (cond (eqb b less) class.Less
+    (cond (eqb b slash) class.Slash
+    (cond (eqb b greater) class.Greater class.Other)))))
+
+---------------------------------------------------------------- tests of a class
+
+abbrev pub of_blank : Class → Bool
+of_blank class.Blank = true
+of_blank k = false
+
+abbrev pub of_letter : Class → Bool
+of_letter class.Letter = true
+of_letter k = false
+
+-- A letter, or another byte of a name.
+abbrev pub of_name : Class → Bool
+of_name class.Letter = true
+of_name class.Name = true
+of_name k = false
+
+abbrev pub of_less : Class → Bool
+of_less class.Less = true
+of_less k = false
+
+abbrev pub of_slash : Class → Bool
+of_slash class.Slash = true
+of_slash k = false
+
+abbrev pub of_greater : Class → Bool
+of_greater class.Greater = true
+of_greater k = false

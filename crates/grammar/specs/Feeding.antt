@@ -1,26 +1,24 @@
 -- Bytes fed one after another to what takes them step by step, as the reader and the writer do. Definitions only.
-use Rattle.std.specs.Prelude.{Bool, true, false, cond, ◌&&◌, List, [], ◌∷◌, ◌++◌, ℕ, ◌+◌, ◌-◌, ltb, length}
+use Rattle.std.specs.Prelude.{Bool, true, false, cond, ◌&&◌, List, [], ◌∷◌, ◌++◌, ℕ, ◌+◌, ◌-◌, ltb, length, Option, Some, None}
 use Rattle.grammar.specs.declared.Fault.{Fault}
 use Rattle.grammar.specs.declared.Fault.TheVariants as fault
-use Rattle.grammar.specs.declared.Stop.{Stop}
-use Rattle.grammar.specs.declared.Stop.TheVariants.{Not, At}
 
 -- What becomes of a byte: where it leads, the bytes that it gives, and whether it is at fault.
 pub record Step (A : Type 0) : Type 0 where
   pub next : A
   pub gives : List ℕ
-  pub stops : Stop
+  pub stops : Option Fault
 
-abbrev pub goes_on : Stop → Bool
-goes_on Not = true
-goes_on (At f) = false
+abbrev pub goes_on : Option Fault → Bool
+goes_on None = true
+goes_on (Some f) = false
 
 -- A byte at fault leaves all as it was.
 abbrev pub stopped : {A : Type 0} → A → Fault → Step A
-stopped a f = record { next = a; gives = []; stops = At f }
+stopped a f = record { next = a; gives = []; stops = Some f }
 
 abbrev pub stepped : {A : Type 0} → A → List ℕ → Step A
-stepped a out = record { next = a; gives = out; stops = Not }
+stepped a out = record { next = a; gives = out; stops = None }
 
 -- What becomes of bytes: all that they give, how many were taken, where they lead, and the fault of the next, if it is
 -- one that stopped them.
@@ -28,7 +26,7 @@ pub record Fed (A : Type 0) : Type 0 where
   pub gives : List ℕ
   pub taken : ℕ
   pub state : A
-  pub stops : Stop
+  pub stops : Option Fault
 
 -- n bytes, which gave out, and then others.
 abbrev pub after : {A : Type 0} → List ℕ → ℕ → Fed A → Fed A
@@ -36,7 +34,7 @@ after out n f = record { gives = out ++ f.gives; taken = n + f.taken; state = f.
 
 -- Up to the first byte at fault.
 abbrev pub feed : {A : Type 0} → (A → ℕ → Step A) → A → List ℕ → Fed A
-feed step a [] = record { gives = []; taken = 0; state = a; stops = Not }
+feed step a [] = record { gives = []; taken = 0; state = a; stops = None }
 feed step a (b ∷ s) =
     cond (goes_on (step a b).stops)
     (after (step a b).gives 1 (feed step (step a b).next s))

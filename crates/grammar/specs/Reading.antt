@@ -1,10 +1,9 @@
 -- Reading tagged text (02, K1 and K2): byte by byte, up to the first at fault. Definitions only.
-use Rattle.std.specs.Prelude.{Bool, true, false, cond, ◌&&◌, List, [], ◌∷◌, ◌++◌, ℕ, suc, ◌+◌, eqb, ltb, length, drop}
+use Rattle.std.specs.Prelude.{Bool, true, false, cond, ◌&&◌, List, [], ◌∷◌, ◌++◌, ℕ, suc, ◌+◌, eqb, ltb, length, drop, Option, Some, None, Result, Ok, Err}
+use Rattle.grammar.specs.declared.Fault.{Fault}
 use Rattle.grammar.specs.declared.Fault.TheVariants as fault
-use Rattle.grammar.specs.declared.Stop.{Stop}
-use Rattle.grammar.specs.declared.Stop.TheVariants.{Not, At}
-use Rattle.grammar.specs.declared.Reading.{Reading}
-use Rattle.grammar.specs.declared.Reading.TheVariants as reading
+use Rattle.grammar.specs.declared.ReadError.{ReadError}
+use Rattle.grammar.specs.declared.ReadError.TheVariants as read_error
 use Rattle.grammar.specs.Bytes.{is_blank, is_letter, is_name_byte, less, slash, greater}
 use Rattle.grammar.specs.Names.{place_of, lines_of, good_names}
 use Rattle.grammar.specs.Tags.{Tag, name_of, Begun}
@@ -85,22 +84,22 @@ abbrev pub read_fed : List (List ℕ) → ℕ → List ℕ → Fed (Roomed Place
 read_fed ns room s = feed (roomed (read_step ns)) (record { inner = fresh; left = room }) s
 
 -- The text's end, after which byte 65 is given: nothing is open, and there is room for it.
-abbrev pub end_stop : Bool → ℕ → Stop
-end_stop closed left = cond closed (cond (ltb 0 left) Not (At fault.Short)) (At fault.Ended)
+abbrev pub end_stop : Bool → ℕ → Option Fault
+end_stop closed left = cond closed (cond (ltb 0 left) None (Some fault.Short)) (Some fault.Ended)
 
 -- The whole text: the first byte at fault, or else the end.
-abbrev pub text_stop : Fed (Roomed Place) → Stop
+abbrev pub text_stop : Fed (Roomed Place) → Option Fault
 text_stop f = cond (goes_on f.stops) (end_stop (closed f.state.inner) f.state.left) f.stops
 
-abbrev pub answer_of : Stop → ℕ → ℕ → Reading
-answer_of Not taken events = reading.Taken (suc events)
-answer_of (At k) taken events = reading.Refused k taken
+abbrev pub answer_of : Option Fault → ℕ → ℕ → Result ℕ ReadError
+answer_of None taken events = Ok (suc events)
+answer_of (Some k) taken events = Err (read_error.Text k taken)
 
 -- What the reader answers for names, a text and an output with so much room.
-abbrev pub read_answer : List ℕ → List ℕ → ℕ → Reading
+abbrev pub read_answer : List ℕ → List ℕ → ℕ → Result ℕ ReadError
 read_answer names s room =
     let f = read_fed (lines_of names) room s in
-    cond (good_names names) (answer_of (text_stop f) f.taken (length f.gives)) reading.Names
+    cond (good_names names) (answer_of (text_stop f) f.taken (length f.gives)) (Err read_error.Names)
 
 -- What stands in the output afterwards: from its front the events and byte 65; nothing else of it changes. A refusal
 -- writes nothing.

@@ -1,12 +1,12 @@
 -- Writing a stream as tagged text without blanks (02, K1 and K2): event by event, up to the first at fault. Definitions only.
-use Rattle.std.specs.Prelude.{Bool, true, false, not, cond, ◌&&◌, List, [], ◌∷◌, ℕ, eqb, ltb, length}
+use Rattle.std.specs.Prelude.{Bool, true, false, not, cond, ◌&&◌, List, [], ◌∷◌, ℕ, eqb, ltb, length, Result, Ok, Err}
 use Rattle.meaning.specs.Lent.{on_front}
 use Rattle.answers.specs.declared.Event.{Event}
 use Rattle.answers.specs.declared.Event.TheVariants as event
 use Rattle.answers.specs.Bytes.{meaning_of}
 use Rattle.grammar.specs.declared.Fault.TheVariants as fault
-use Rattle.grammar.specs.declared.Writing.{Writing}
-use Rattle.grammar.specs.declared.Writing.TheVariants as writing
+use Rattle.grammar.specs.declared.WriteError.{WriteError}
+use Rattle.grammar.specs.declared.WriteError.TheVariants as write_error
 use Rattle.grammar.specs.Names.{name_at, lines_of, good_names}
 use Rattle.grammar.specs.Tags.{Tag, tag_text}
 use Rattle.grammar.specs.Feeding.{Step, goes_on, stopped, stepped, Fed, feed}
@@ -58,14 +58,14 @@ abbrev pub whole_stream : Fed Written → Bool
 whole_stream f = goes_on f.stops && f.state.ended
 
 -- What the writer answers for names, events and an output with so much room.
-abbrev pub write_answer : List ℕ → List ℕ → ℕ → Writing
+abbrev pub write_answer : List ℕ → List ℕ → ℕ → Result ℕ WriteError
 write_answer names es room =
     let f = write_fed (lines_of names) es in
     cond (good_names names)
     (cond (whole_stream f)
-    (cond (ltb room (length f.gives)) writing.Short (writing.Taken (length f.gives)))
-    (writing.Refused f.taken))
-    writing.Names
+    (cond (ltb room (length f.gives)) (Err write_error.Short) (Ok (length f.gives)))
+    (Err (write_error.Stream f.taken)))
+    (Err write_error.Names)
 
 -- What stands in the output afterwards: the text from its front; nothing else of it changes. A refusal writes nothing.
 abbrev pub write_out : List ℕ → List ℕ → List ℕ → List ℕ

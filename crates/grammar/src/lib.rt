@@ -1,9 +1,27 @@
-// Tagged text (02, K1): what it is stands in specs/, what follows from it in proofs/. Here are the answers that reading
-// and writing it have in common.
+// Tagged text (02, K1): what it is stands in specs/, what follows from it in proofs/. Here are the classes of its bytes, and the
+// errors of reading and writing it.
 #![tactic(auto)]
 
+use std::fmt;
+
+// What a byte may be in a text.
+#[derive(Clone, Copy, Debug, PartialEq, Eq)]
+pub enum Class {
+    // What may stand between tags.
+    Blank,
+    Letter,
+    // A byte of a name that is no letter.
+    Name,
+    // "<", "/" and ">".
+    Less,
+    Slash,
+    Greater,
+    // A byte that is allowed nowhere.
+    Other,
+}
+
 // Why a text is refused at a place, in 02's order.
-#[derive(Clone, Copy)]
+#[derive(Clone, Copy, Debug, PartialEq, Eq)]
 pub enum Fault {
     // A byte that is not allowed there.
     Byte,
@@ -19,31 +37,35 @@ pub enum Fault {
     Short,
 }
 
-// Whether reading or writing has stopped, and by what fault.
-#[derive(Clone, Copy)]
-pub enum Stop {
-    Not,
-    At(Fault),
+impl fmt::Display for Fault {
+    fn fmt<W: fmt::Write>(&self, f: &mut fmt::Formatter<W>) -> fmt::Result {
+        match self {
+            Fault::Byte => write!(f, "byte not allowed"),
+            Fault::Unknown => write!(f, "name unknown"),
+            Fault::Closing => write!(f, "closing name not the open one or none open"),
+            Fault::Ended => write!(f, "text ends with a tag or element open"),
+            Fault::Deep => write!(f, "deeper than 40"),
+            Fault::Short => write!(f, "output short"),
+        }
+    }
 }
 
-// What the reader answers: the number of events written, or why none was.
-#[derive(Clone, Copy)]
-pub enum Reading {
-    Taken(usize),
+// Why the reader has written no events.
+#[derive(Clone, Copy, Debug, PartialEq, Eq)]
+pub enum ReadError {
     // The list of names is bad.
     Names,
     // The text is at fault, first at this place.
-    Refused(Fault, usize),
+    Text(Fault, usize),
 }
 
-// What the writer answers: the number of bytes written, or why none was.
-#[derive(Clone, Copy)]
-pub enum Writing {
-    Taken(usize),
+// Why the writer has written no text.
+#[derive(Clone, Copy, Debug, PartialEq, Eq)]
+pub enum WriteError {
     // The list of names is bad.
     Names,
     // No whole stream goes on at this place.
-    Refused(usize),
+    Stream(usize),
     // The output has no room for the text.
     Short,
 }

@@ -1,4 +1,5 @@
 -- Laws of names in a list: two that are the same, the place of one, its label. Assumes nothing.
+use Rattle.std.proofs.Common.{Option, Some, None}
 use mathlib.Core.Path.{◌≡◌, refl, sym, ap}
 use mathlib.Core.Bool.{Bool, true, false, cond, ◌&&◌, and_assoc, and-true, true≢false}
 use mathlib.Core.List.{List, [], ◌∷◌, ◌++◌, append-nil}
@@ -9,8 +10,6 @@ use lib.Dec.{eqb, ltb, leb-suc-suc, eqb-zero-suc, eqb-suc-suc}
 use lib.ListN.{length, get_or}
 use Rattle.grammar.specs.Names.{same, place_of, named, is_name}
 use Rattle.meaning.proofs.Tests.{both_true}
-use Rattle.names.specs.declared.Label.{Label}
-use Rattle.names.specs.declared.Label.TheVariants as label
 use Rattle.names.specs.Words.{labelled}
 
 pub eqb_turned : (a b : ℕ) → eqb a b ≡ eqb b a
@@ -56,16 +55,16 @@ begins_whole (b ∷ y) [] = refl
 begins_whole (b ∷ y) (c ∷ x) = rw (eqb-suc-suc (length y) (length x), and_assoc (eqb b c), begins_whole y x, eqb_turned b c)
 
 -- The label of x by its place, where the first name of ns has label l.
-abbrev pub label_from : List (List ℕ) → List ℕ → ℕ → Label
-label_from [] x l = label.None
-label_from (y ∷ ns) x l = cond (same x y) (label.Is l) (label_from ns x (l + 1))
+abbrev pub label_from : List (List ℕ) → List ℕ → ℕ → Option ℕ
+label_from [] x l = None
+label_from (y ∷ ns) x l = cond (same x y) (Some l) (label_from ns x (l + 1))
 
-label_from_place : (ns : List (List ℕ)) (x : List ℕ) (l : ℕ) → label_from ns x l ≡ cond (ltb (place_of x ns) (length ns)) (label.Is (l + place_of x ns)) label.None
+label_from_place : (ns : List (List ℕ)) (x : List ℕ) (l : ℕ) → label_from ns x l ≡ cond (ltb (place_of x ns) (length ns)) (Some (l + place_of x ns)) None
 label_from_place [] x l = refl
 label_from_place (y ∷ ns) x l = go (same x y) refl (label_from_place ns x (l + 1))
   where
-    go : (t : Bool) → same x y ≡ t → label_from ns x (l + 1) ≡ cond (ltb (place_of x ns) (length ns)) (label.Is (l + 1 + place_of x ns)) label.None
-        → label_from (y ∷ ns) x l ≡ cond (ltb (place_of x (y ∷ ns)) (length (y ∷ ns))) (label.Is (l + place_of x (y ∷ ns))) label.None
+    go : (t : Bool) → same x y ≡ t → label_from ns x (l + 1) ≡ cond (ltb (place_of x ns) (length ns)) (Some (l + 1 + place_of x ns)) None
+        → label_from (y ∷ ns) x l ≡ cond (ltb (place_of x (y ∷ ns)) (length (y ∷ ns))) (Some (l + place_of x (y ∷ ns))) None
     go true e ih = rw (e, lt-ltb 0 (suc (length ns)) (omega arith), zeroth)
       where
         zeroth : l + 0 ≡ l
@@ -82,7 +81,7 @@ label_is_place ns x = rw (label_from_place ns x 0, none_before)
     none_before = omega arith
 
 -- A name of more than 16 bytes is none of a list whose names have at most 16.
-pub no_label : (ns : List (List ℕ)) (x : List ℕ) → named ns ≡ true → 16 < length x → labelled ns x ≡ label.None
+pub no_label : (ns : List (List ℕ)) (x : List ℕ) → named ns ≡ true → 16 < length x → labelled ns x ≡ None
 no_label ns x e long = rw (no_place ns e, le-ltb (length ns) (length ns) (omega arith))
   where
     differ : (y : List ℕ) (t : Bool) → same x y ≡ t → length y < 17 → same x y ≡ false

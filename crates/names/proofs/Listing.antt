@@ -1,4 +1,5 @@
 -- The loop of `good` as a recursion over the rest of the list, and that it says whether the list is good. Assumes nothing.
+use Rattle.std.proofs.Common.{Some, None}
 use mathlib.Core.Path.{◌≡◌, refl, sym, ap, ◌∙◌, subst}
 use mathlib.Core.Bool.{Bool, true, false, not, cond, ◌&&◌, and-false, and-true, and_assoc, and_comm}
 use mathlib.Core.List.{List, [], ◌∷◌, ◌++◌, append_assoc, append-nil}
@@ -13,7 +14,6 @@ use Rattle.grammar.specs.Bytes.{is_letter, is_name_byte}
 use Rattle.grammar.specs.Names.{same, name_bytes, is_name, lines_from, lines_of, on_lines, place_of, named, found, good_names}
 use Rattle.meaning.proofs.Tests.{both_true}
 use Rattle.names.specs.declared.Word.{Word}
-use Rattle.names.specs.declared.Label.TheVariants as label
 use Rattle.names.specs.Words.{no_word, with_byte, known, labelled, goes_on_by, is_label, stands_at}
 use Rattle.names.proofs.Spelling.{Spells, length_more, spells_none, spells_more}
 use Rattle.names.proofs.Finding.{same_after, same_self}
@@ -94,7 +94,7 @@ found_first zero before x after = rw (leb-suc-zero (length before))
 found_first (suc n) [] x after = rw (same_self x, lt-ltb 0 (suc (length (take n after))) (omega arith), lt-ltb 0 (suc n) (omega arith))
 found_first (suc n) (y ∷ before) x after = go (same x y) refl (found_first n before x after)
   where
-    one_on : (t : Bool) (p l : ℕ) → is_label (cond t (label.Is (suc p)) label.None) (suc l) ≡ is_label (cond t (label.Is p) label.None) l
+    one_on : (t : Bool) (p l : ℕ) → is_label (cond t (Some (suc p)) None) (suc l) ≡ is_label (cond t (Some p) None) l
     one_on true p l = eqb-suc-suc p l
     one_on false p l = refl
 

@@ -1,5 +1,6 @@
 -- The loop of `label_of` as a recursion over the rest of the list, and what it finds: the label by place among the lines.
 -- Assumes nothing.
+use Rattle.std.proofs.Common.{Option, Some, None}
 use mathlib.Core.Path.{◌≡◌, refl, sym, ◌∙◌}
 use mathlib.Core.Bool.{Bool, true, false, cond, ◌&&◌}
 use mathlib.Core.List.{List, [], ◌∷◌, ◌++◌}
@@ -13,21 +14,19 @@ use lib.Seq.{length-take-le}
 use Rattle.grammar.specs.Names.{lines_from, named}
 use Rattle.meaning.proofs.Tests.{both_true}
 use Rattle.names.specs.declared.Word.{Word}
-use Rattle.names.specs.declared.Label.{Label}
-use Rattle.names.specs.declared.Label.TheVariants as label
 use Rattle.names.specs.Words.{has_byte, spelt, known, labelled, label_in}
 use Rattle.names.proofs.Spelling.{Spells, length_more, spells_itself, spelt_is, length_short, length_long, has_byte_lem}
 use Rattle.names.proofs.Finding.{begins, begins_more, begins_whole, label_from, label_is_place, no_label}
 
 -- The label of w, sought from the middle of line l on, where `at` bytes of the line stand before, which agree with w or not.
-abbrev pub seek : List ℕ → Word → ℕ → Bool → ℕ → Label
-seek [] w at agrees l = label.None
+abbrev pub seek : List ℕ → Word → ℕ → Bool → ℕ → Option ℕ
+seek [] w at agrees l = None
 seek (b ∷ s) w at agrees l =
     cond (ltb l 32)
     (cond (eqb b 10)
-    (cond (agrees && eqb at w.length) (label.Is l) (seek s w 0 true (l + 1)))
+    (cond (agrees && eqb at w.length) (Some l) (seek s w 0 true (l + 1)))
     (seek s w (at + 1) (agrees && has_byte w at b) l))
-    label.None
+    None
 
 -- Where y stands before on line l, and n lines are left, a short name is found at its place.
 seek_lines : {w : Word} {x : List ℕ} → Spells w x → length x ≤ 16 → (s y : List ℕ) (n l : ℕ) → l + n ≡ 32
@@ -46,7 +45,7 @@ seek_lines {w} {x} h short (b ∷ s) y (suc n) l e =
     go false q next more = rw (lt-ltb l 32 (omega arith), q, has_byte_lem h short (length y) b, ← begins_more y x b, ← length_more y b) more
 
 -- A word of more than 16 bytes is not found: no more than 16 bytes ever agree.
-seek_long : (w : Word) → 16 < w.length → (s : List ℕ) (at : ℕ) (agrees : Bool) (l : ℕ) → (agrees ≡ true → at ≤ 16) → seek s w at agrees l ≡ label.None
+seek_long : (w : Word) → 16 < w.length → (s : List ℕ) (at : ℕ) (agrees : Bool) (l : ℕ) → (agrees ≡ true → at ≤ 16) → seek s w at agrees l ≡ None
 seek_long w long [] at agrees l h = refl
 seek_long w long (b ∷ s) at agrees l h =
     go (ltb l 32) (eqb b 10)
@@ -62,8 +61,8 @@ seek_long w long (b ∷ s) at agrees l h =
     never true e = rw e (ne_eqb at w.length (λ q. omega (arith, h e)))
     never false e = rw e
 
-    go : (t u : Bool) → seek s w 0 true (l + 1) ≡ label.None → seek s w (at + 1) (agrees && has_byte w at b) l ≡ label.None
-        → cond t (cond u (cond (agrees && eqb at w.length) (label.Is l) (seek s w 0 true (l + 1))) (seek s w (at + 1) (agrees && has_byte w at b) l)) label.None ≡ label.None
+    go : (t u : Bool) → seek s w 0 true (l + 1) ≡ None → seek s w (at + 1) (agrees && has_byte w at b) l ≡ None
+        → cond t (cond u (cond (agrees && eqb at w.length) (Some l) (seek s w 0 true (l + 1))) (seek s w (at + 1) (agrees && has_byte w at b) l)) None ≡ None
     go true true next more = rw (never agrees refl) next
     go true false next more = more
     go false u next more = refl
@@ -72,7 +71,7 @@ seek_long w long (b ∷ s) at agrees l h =
 pub seek_is : (names : List ℕ) (w : Word) → length w.bytes ≡ 16 → seek names w 0 true 0 ≡ label_in names w
 seek_is names w room = go (ltb w.length 17) refl
   where
-    go : (t : Bool) → ltb w.length 17 ≡ t → seek names w 0 true 0 ≡ cond t (labelled (known names) (spelt w)) label.None
+    go : (t : Bool) → ltb w.length 17 ≡ t → seek names w 0 true 0 ≡ cond t (labelled (known names) (spelt w)) None
     go true e =
         let short : w.length ≤ 16 = omega (arith, ltb-true w.length 17 e) in
         let spells : Spells w (spelt w) = spells_itself w room short in

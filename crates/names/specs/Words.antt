@@ -1,10 +1,8 @@
 -- A name as the reader and the writer hold it, and the list of names in its terms. Definitions only.
-use Rattle.std.specs.Prelude.{Bool, false, not, cond, ◌&&◌, List, [], ◌∷◌, ℕ, ◌+◌, ◌-◌, eqb, ltb, length, get_or, set, replicate, take}
+use Rattle.std.specs.Prelude.{Bool, false, not, cond, ◌&&◌, List, [], ◌∷◌, ℕ, ◌+◌, ◌-◌, eqb, ltb, length, get_or, set, replicate, take, Option, Some, None}
 use Rattle.grammar.specs.Bytes.{is_letter, is_name_byte}
 use Rattle.grammar.specs.Names.{lines_of, place_of}
 use Rattle.names.specs.declared.Word.{Word}
-use Rattle.names.specs.declared.Label.{Label}
-use Rattle.names.specs.declared.Label.TheVariants as label
 
 abbrev pub no_word : Word
 no_word = record { bytes = replicate 16 0; length = 0 }
@@ -25,20 +23,20 @@ spelt w = take w.length w.bytes
 abbrev pub known : List ℕ → List (List ℕ)
 known names = take 32 (lines_of names)
 
-abbrev pub labelled : List (List ℕ) → List ℕ → Label
-labelled ns x = cond (ltb (place_of x ns) (length ns)) (label.Is (place_of x ns)) label.None
+abbrev pub labelled : List (List ℕ) → List ℕ → Option ℕ
+labelled ns x = cond (ltb (place_of x ns) (length ns)) (Some (place_of x ns)) None
 
 -- A word of more than 16 bytes is none of the list's.
-abbrev pub label_in : List ℕ → Word → Label
-label_in names w = cond (ltb w.length 17) (labelled (known names) (spelt w)) label.None
+abbrev pub label_in : List ℕ → Word → Option ℕ
+label_in names w = cond (ltb w.length 17) (labelled (known names) (spelt w)) None
 
 -- A name of the list can go on with b.
 abbrev pub goes_on_by : Word → ℕ → Bool
 goes_on_by w b = cond (eqb w.length 0) (is_letter b) (ltb w.length 16 && is_name_byte b)
 
-abbrev pub is_label : Label → ℕ → Bool
-is_label (label.Is a) l = eqb a l
-is_label label.None l = false
+abbrev pub is_label : Option ℕ → ℕ → Bool
+is_label (Some a) l = eqb a l
+is_label None l = false
 
 abbrev pub stands_at : List ℕ → Word → ℕ → Bool
 stands_at names w l = not (eqb w.length 0) && is_label (label_in names w) l

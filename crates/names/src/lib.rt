@@ -5,288 +5,41 @@
 ghost use Rattle.std.specs.Prelude.{◌≡◌};
 ghost use Rattle.grammar.specs.Bytes.{class_of};
 ghost use Rattle.grammar.specs.Names.{good_names};
-ghost use Rattle.names.specs.Words.{no_word, with_byte, has_byte, label_in, goes_on_by, stands_at, word_at};
+ghost use Rattle.names.specs.Words.{no_word, with_byte, has_byte, spelt, label_in, goes_on_by, stands_at, word_at};
 
-// What may stand between tags; a letter; another byte of a name; "<", "/" and ">". Any other byte has class 0.
-pub const BLANK: u8 = 1;
+use grammar::Class;
+use grammar::Class::{
+    Blank as B, Greater as GT, Less as LT, Letter as L, Name as N, Other as O, Slash as SL,
+};
 
-pub const LETTER: u8 = 2;
-
-pub const NAME: u8 = 3;
-
-pub const LESS: u8 = 4;
-
-pub const SLASH: u8 = 5;
-
-pub const GREATER: u8 = 6;
-
-// Byte by byte, from 0.
-const CLASSES: [u8; 256] = [
-    0, // 0
-    0, // 1
-    0, // 2
-    0, // 3
-    0, // 4
-    0, // 5
-    0, // 6
-    0, // 7
-    0, // 8
-    0, // 9 tab
-    1, // 10 line feed
-    0, // 11
-    0, // 12
-    1, // 13 carriage return
-    0, // 14
-    0, // 15
-    0, // 16
-    0, // 17
-    0, // 18
-    0, // 19
-    0, // 20
-    0, // 21
-    0, // 22
-    0, // 23
-    0, // 24
-    0, // 25
-    0, // 26
-    0, // 27
-    0, // 28
-    0, // 29
-    0, // 30
-    0, // 31
-    1, // 32 space
-    0, // 33 !
-    0, // 34 "
-    0, // 35 #
-    0, // 36 $
-    0, // 37 %
-    0, // 38 &
-    0, // 39 '
-    0, // 40 (
-    0, // 41 )
-    0, // 42 *
-    0, // 43 +
-    0, // 44 ,
-    3, // 45 -
-    3, // 46 .
-    5, // 47 /
-    3, // 48 0
-    3, // 49 1
-    3, // 50 2
-    3, // 51 3
-    3, // 52 4
-    3, // 53 5
-    3, // 54 6
-    3, // 55 7
-    3, // 56 8
-    3, // 57 9
-    0, // 58 :
-    0, // 59 ;
-    4, // 60 <
-    0, // 61 =
-    6, // 62 >
-    0, // 63 ?
-    0, // 64 @
-    2, // 65 A
-    2, // 66 B
-    2, // 67 C
-    2, // 68 D
-    2, // 69 E
-    2, // 70 F
-    2, // 71 G
-    2, // 72 H
-    2, // 73 I
-    2, // 74 J
-    2, // 75 K
-    2, // 76 L
-    2, // 77 M
-    2, // 78 N
-    2, // 79 O
-    2, // 80 P
-    2, // 81 Q
-    2, // 82 R
-    2, // 83 S
-    2, // 84 T
-    2, // 85 U
-    2, // 86 V
-    2, // 87 W
-    2, // 88 X
-    2, // 89 Y
-    2, // 90 Z
-    0, // 91 [
-    0, // 92 \
-    0, // 93 ]
-    0, // 94 ^
-    3, // 95 _
-    0, // 96 `
-    2, // 97 a
-    2, // 98 b
-    2, // 99 c
-    2, // 100 d
-    2, // 101 e
-    2, // 102 f
-    2, // 103 g
-    2, // 104 h
-    2, // 105 i
-    2, // 106 j
-    2, // 107 k
-    2, // 108 l
-    2, // 109 m
-    2, // 110 n
-    2, // 111 o
-    2, // 112 p
-    2, // 113 q
-    2, // 114 r
-    2, // 115 s
-    2, // 116 t
-    2, // 117 u
-    2, // 118 v
-    2, // 119 w
-    2, // 120 x
-    2, // 121 y
-    2, // 122 z
-    0, // 123 {
-    0, // 124 |
-    0, // 125 }
-    0, // 126 ~
-    0, // 127
-    0, // 128
-    0, // 129
-    0, // 130
-    0, // 131
-    0, // 132
-    0, // 133
-    0, // 134
-    0, // 135
-    0, // 136
-    0, // 137
-    0, // 138
-    0, // 139
-    0, // 140
-    0, // 141
-    0, // 142
-    0, // 143
-    0, // 144
-    0, // 145
-    0, // 146
-    0, // 147
-    0, // 148
-    0, // 149
-    0, // 150
-    0, // 151
-    0, // 152
-    0, // 153
-    0, // 154
-    0, // 155
-    0, // 156
-    0, // 157
-    0, // 158
-    0, // 159
-    0, // 160
-    0, // 161
-    0, // 162
-    0, // 163
-    0, // 164
-    0, // 165
-    0, // 166
-    0, // 167
-    0, // 168
-    0, // 169
-    0, // 170
-    0, // 171
-    0, // 172
-    0, // 173
-    0, // 174
-    0, // 175
-    0, // 176
-    0, // 177
-    0, // 178
-    0, // 179
-    0, // 180
-    0, // 181
-    0, // 182
-    0, // 183
-    0, // 184
-    0, // 185
-    0, // 186
-    0, // 187
-    0, // 188
-    0, // 189
-    0, // 190
-    0, // 191
-    0, // 192
-    0, // 193
-    0, // 194
-    0, // 195
-    0, // 196
-    0, // 197
-    0, // 198
-    0, // 199
-    0, // 200
-    0, // 201
-    0, // 202
-    0, // 203
-    0, // 204
-    0, // 205
-    0, // 206
-    0, // 207
-    0, // 208
-    0, // 209
-    0, // 210
-    0, // 211
-    0, // 212
-    0, // 213
-    0, // 214
-    0, // 215
-    0, // 216
-    0, // 217
-    0, // 218
-    0, // 219
-    0, // 220
-    0, // 221
-    0, // 222
-    0, // 223
-    0, // 224
-    0, // 225
-    0, // 226
-    0, // 227
-    0, // 228
-    0, // 229
-    0, // 230
-    0, // 231
-    0, // 232
-    0, // 233
-    0, // 234
-    0, // 235
-    0, // 236
-    0, // 237
-    0, // 238
-    0, // 239
-    0, // 240
-    0, // 241
-    0, // 242
-    0, // 243
-    0, // 244
-    0, // 245
-    0, // 246
-    0, // 247
-    0, // 248
-    0, // 249
-    0, // 250
-    0, // 251
-    0, // 252
-    0, // 253
-    0, // 254
-    0, // 255
+// A row for each 16 byte values, from 0 on.
+const CLASSES: [Class; 256] = [
+    O, O, O, O, O, O, O, O, O, O, B, O, O, B, O, O, // from 0: the line feed and the carriage return
+    O, O, O, O, O, O, O, O, O, O, O, O, O, O, O, O, // from 16
+    B, O, O, O, O, O, O, O, O, O, O, O, O, N, N, SL, // from 32: the space, "-", "." and "/"
+    N, N, N, N, N, N, N, N, N, N, O, O, LT, O, GT, O, // from 48: the digits, "<" and ">"
+    O, L, L, L, L, L, L, L, L, L, L, L, L, L, L, L, // from 64: A to O
+    L, L, L, L, L, L, L, L, L, L, L, O, O, O, O, N, // from 80: P to Z, and "_"
+    O, L, L, L, L, L, L, L, L, L, L, L, L, L, L, L, // from 96: a to o
+    L, L, L, L, L, L, L, L, L, L, L, O, O, O, O, O, // from 112: p to z
+    O, O, O, O, O, O, O, O, O, O, O, O, O, O, O, O, // from 128
+    O, O, O, O, O, O, O, O, O, O, O, O, O, O, O, O, // from 144
+    O, O, O, O, O, O, O, O, O, O, O, O, O, O, O, O, // from 160
+    O, O, O, O, O, O, O, O, O, O, O, O, O, O, O, O, // from 176
+    O, O, O, O, O, O, O, O, O, O, O, O, O, O, O, O, // from 192
+    O, O, O, O, O, O, O, O, O, O, O, O, O, O, O, O, // from 208
+    O, O, O, O, O, O, O, O, O, O, O, O, O, O, O, O, // from 224
+    O, O, O, O, O, O, O, O, O, O, O, O, O, O, O, O, // from 240
 ];
 
-pub fn class_of(byte: u8) -> u8
+pub fn class_of(byte: u8) -> Class
     ensures { result ≡ class_of byte }
 {
     CLASSES[byte as usize]
 }
 
-// The first bytes of a name, with their number: 17 where there are more than 16.
+// The first bytes of a name, with their number: 17 where there are more than 16. An array beside a length, since the reader
+// and the writer have fixed memory and no heap.
 #[derive(Clone, Copy)]
 pub struct Word {
     pub bytes: [u8; 16],
@@ -322,52 +75,45 @@ impl Word {
     pub fn has(self, at: usize, byte: u8) -> bool
         ensures { result ≡ has_byte self at byte }
     {
-        let length = self.length;
-        if at < length {
-            if at < 16 {
-                let bytes = self.bytes;
-                return bytes[at] == byte;
-            }
+        at < self.length && at < 16 && self.bytes[at] == byte
+    }
+
+    // The bytes that it holds.
+    pub fn spelt(&self) -> &[u8]
+        ensures { result.now ≡ spelt self.now }
+    {
+        if self.length < 16 {
+            &self.bytes[..self.length]
+        } else {
+            &self.bytes
         }
-        false
     }
 }
 
-// The label of a name, or that it is none of the list's.
-#[derive(Clone, Copy)]
-pub enum Label {
-    Is(u8),
-    None,
-}
-
-// Of the first 32 lines, the place of the first that is this word.
-pub fn label_of(names: &[u8], word: Word) -> Label
+// The label of a name: of the first 32 lines, the place of the first that is this word.
+pub fn label_of(names: &[u8], word: Word) -> Option<u8>
     ensures { result ≡ label_in names.now word }
 {
-    let length = word.length;
     let mut label: u8 = 0;
     let mut at: usize = 0;
     let mut agrees = true;
-    let mut i: usize = 0;
-    while i < names.len() {
+    for &byte in names {
         if 32 <= label {
-            return Label::None;
+            return None;
         }
-        let byte = names[i];
         if byte == 10 {
-            if agrees & (at == length) {
-                return Label::Is(label);
+            if agrees && at == word.length {
+                return Some(label);
             }
             label += 1;
             at = 0;
             agrees = true;
         } else {
-            agrees = agrees & word.has(at, byte);
+            agrees = agrees && word.has(at, byte);
             at += 1;
         }
-        i += 1;
     }
-    Label::None
+    None
 }
 
 // A name of the list can go on with this byte: it begins with a letter, and has at most 16 bytes.
@@ -376,23 +122,17 @@ fn goes_on(word: Word, byte: u8) -> bool
 {
     let class = class_of(byte);
     if word.length == 0 {
-        return class == LETTER;
+        matches!(class, Class::Letter)
+    } else {
+        word.length < 16 && matches!(class, Class::Letter | Class::Name)
     }
-    (word.length < 16) & ((class == LETTER) | (class == NAME))
 }
 
 // The word may stand in the list as the name of this label: it is not empty, and it is found there first.
 fn stands(names: &[u8], word: Word, label: u64) -> bool
     ensures { result ≡ stands_at names.now word label }
 {
-    if word.length == 0 {
-        return false;
-    }
-    let found = label_of(names, word);
-    match found {
-        Label::Is(a) => (a as u64) == label,
-        Label::None => false,
-    }
+    word.length != 0 && label_of(names, word).is_some_and(|a| u64::from(a) == label)
 }
 
 // How many bytes the longest good list has: 32 names of 16 bytes, each followed by one byte 10.
@@ -404,9 +144,7 @@ pub fn good(names: &[u8]) -> bool
 {
     let mut word = Word::none();
     let mut label: u64 = 0;
-    let mut i: usize = 0;
-    while i < names.len() {
-        let byte = names[i];
+    for &byte in names {
         if byte == 10 {
             if !stands(names, word, label) {
                 return false;
@@ -419,9 +157,8 @@ pub fn good(names: &[u8]) -> bool
             }
             word = word.with(byte);
         }
-        i += 1;
     }
-    (word.length == 0) & (0 < label)
+    word.length == 0 && 0 < label
 }
 
 // The name of a label: of the first 32 lines, the one at that place; or no word.
@@ -433,9 +170,7 @@ pub fn name_at(names: &[u8], label: u64) -> Word
         return word;
     }
     let mut lines = label;
-    let mut i: usize = 0;
-    while i < names.len() {
-        let byte = names[i];
+    for &byte in names {
         if byte == 10 {
             if lines == 0 {
                 return word;
@@ -445,7 +180,6 @@ pub fn name_at(names: &[u8], label: u64) -> Word
         } else {
             word = word.with(byte);
         }
-        i += 1;
     }
     Word::none()
 }

@@ -8,7 +8,7 @@
 // counts as the text's end.
 #![tactic(auto)]
 
-use grammar::{Fault, Stop};
+use grammar::Fault;
 use pipes::BLOCK;
 use tags::reader::Cursor;
 
@@ -36,10 +36,10 @@ fn refuse(rt: &HostRuntime, fault: Fault, place: u64) {
 }
 
 // Answers whether the text goes on at this place. Where it does not, says why.
-fn goes_on(rt: &HostRuntime, stop: Stop, place: u64) -> bool {
+fn goes_on(rt: &HostRuntime, stop: Option<Fault>, place: u64) -> bool {
     match stop {
-        Stop::Not => true,
-        Stop::At(fault) => {
+        None => true,
+        Some(fault) => {
             refuse(rt, fault, place);
             false
         }

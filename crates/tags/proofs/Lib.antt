@@ -1,8 +1,9 @@
 pub mod Agreeing
-pub mod Cursoring
+pub mod Following
+pub mod Giving
 pub mod Going
 pub mod Live
-pub mod Loops
+pub mod Nones
 pub mod Opened
 pub mod Pieces
 pub mod Places
@@ -10,4 +11,3 @@ pub mod Scribes
 pub mod Spaces
 pub mod WholeStreams
 pub mod WholeTexts
-pub mod Words

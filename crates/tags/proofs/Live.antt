@@ -1,6 +1,7 @@
 -- A text that comes in pieces, as a program reads it. Feeding the pieces is the same as reading the whole text at once, up to its
 -- first fault: where each piece is lent the room that the ones before have left, for any room; and where each is lent room for
 -- as many events as it has bytes, for room enough. Assumes nothing.
+use Rattle.std.proofs.Common.{Option, Some, None, Result, Ok, Err}
 use mathlib.Core.Path.{◌≡◌, refl, sym, ap, ◌∙◌}
 use mathlib.Core.Bool.{Bool, true, false, cond}
 use mathlib.Core.List.{List, [], ◌∷◌}
@@ -8,16 +9,15 @@ use Prim.Native.Nat.{ℕ, ◌-◌, ◌<◌, ◌≤◌}
 use native.Mathlib.Omega.{arith}
 use borrow.Author.Tests.{lt-ltb}
 use lib.ListN.{length, length-append}
-use Rattle.grammar.specs.declared.Stop.{Stop}
-use Rattle.grammar.specs.declared.Stop.TheVariants.{Not}
+use Rattle.grammar.specs.declared.Fault.{Fault}
 use Rattle.grammar.specs.Names.{lines_of, good_names}
 use Rattle.grammar.specs.Feeding.{goes_on, Fed, Roomed, after, feed, roomed}
 use Rattle.grammar.specs.Reading.{read_fed, end_stop, text_stop, answer_of, read_answer}
 use Rattle.grammar.proofs.Feeding.{then, joined, feed_all, in_pieces, room_enough, with_room}
 use Rattle.tags.specs.declared.reader.Cursor.{Cursor}
-use Rattle.tags.specs.declared.reader.Outcome.{Outcome}
-use Rattle.tags.specs.declared.reader.Outcome.TheVariants as outcome
-use Rattle.tags.specs.Cursors.{begin, closed_in, step_of, given_by, cursor_step, feed_in, fed_of, whole_stop}
+use Rattle.tags.specs.declared.reader.Stepped.{Stepped}
+use Rattle.tags.specs.Cursors.{begin, closed_in, step_of, given_by, step_by, cursor_step, feed_in, whole_stop}
+use Rattle.tags.specs.Feeding.{fed_of}
 use Rattle.tags.proofs.Places.{closed_is}
 use Rattle.tags.proofs.WholeTexts.{mine, same, stop_is}
 
@@ -25,7 +25,7 @@ use Rattle.tags.proofs.WholeTexts.{mine, same, stop_is}
 
 -- Nothing is read yet, and there is room for so many events.
 abbrev pub unread_in : ℕ → Fed (Roomed Cursor)
-unread_in room = record { gives = []; taken = 0; state = record { inner = begin; left = room }; stops = Not }
+unread_in room = record { gives = []; taken = 0; state = record { inner = begin; left = room }; stops = None }
 
 -- The calls of `feed` for pieces, one after another, each from the cursor and with the room that the one before left, up to a
 -- fault.
@@ -35,7 +35,7 @@ handed names f (s ∷ ss) =
     handed names (cond (goes_on f.stops) (after f.gives f.taken (feed_in names f.state.inner f.state.left s)) f) ss
 
 -- The fault of a text that was read so: a byte's, or else the end's.
-abbrev pub end_in : Fed (Roomed Cursor) → Stop
+abbrev pub end_in : Fed (Roomed Cursor) → Option Fault
 end_in f = cond (goes_on f.stops) (end_stop (closed_in f.state.inner) f.state.left) f.stops
 
 handed_are : (names : List ℕ) (f : Fed (Roomed Cursor)) (ss : List (List ℕ)) → handed names f ss ≡ feed_all (roomed (cursor_step names)) f ss
@@ -66,10 +66,13 @@ module _ (names : List ℕ) (good : good_names names ≡ true) (room : ℕ) (ss 
 ---------------------------------------------------------------- room enough
 
 -- A byte gives at most one event.
-one_at_most : (o : Outcome) → length (given_by o) ≤ 1
-one_at_most outcome.Nothing = omega arith
-one_at_most (outcome.Event e) = omega arith
-one_at_most (outcome.Fault f) = omega arith
+one_at_most : (c : Cursor) (x : Result Stepped Fault) → length (step_by c x).gives ≤ 1
+one_at_most c (Ok x) = of_event x.event
+  where
+    of_event : (e : Option ℕ) → length (given_by e) ≤ 1
+    of_event None = omega arith
+    of_event (Some e) = omega arith
+one_at_most c (Err f) = omega arith
 
 few_given : (names : List ℕ) (c : Cursor) (s : List ℕ) → length (feed (cursor_step names) c s).gives ≤ length s
 few_given names c [] = omega arith
@@ -79,7 +82,7 @@ few_given names c (b ∷ s) = go (goes_on (cursor_step names c b).stops) refl (f
         → length (feed (cursor_step names) (cursor_step names c b).next s).gives ≤ length s
         → length (feed (cursor_step names) c (b ∷ s)).gives ≤ length (b ∷ s)
     go true e h =
-        let o : length (cursor_step names c b).gives ≤ 1 = one_at_most (step_of names c b).outcome in
+        let o : length (cursor_step names c b).gives ≤ 1 = one_at_most c (step_of names c b) in
         rw (e, length-append) (omega (arith, o, h))
     go false e h = rw e (omega arith)
 
@@ -117,10 +120,10 @@ calls_are names f (p ∷ ps) =
 
 -- Nothing is read yet.
 abbrev pub unread : Fed Cursor
-unread = record { gives = []; taken = 0; state = begin; stops = Not }
+unread = record { gives = []; taken = 0; state = begin; stops = None }
 
 -- The fault of a text that was read in pieces: a byte's, or else the end's, where there is room for byte 65.
-abbrev pub end_of : Fed Cursor → Stop
+abbrev pub end_of : Fed Cursor → Option Fault
 end_of f = cond (goes_on f.stops) (end_stop (closed_in f.state) 1) f.stops
 
 module _ (names : List ℕ) (good : good_names names ≡ true) (ps : List Piece) where
@@ -142,7 +145,7 @@ module _ (names : List ℕ) (good : good_names names ≡ true) (ps : List Piece)
     verdict_same =
         let f = feed (cursor_step names) begin text in
         ap (λ (x : Fed (Roomed Cursor)). whole_stop (fed_of x) room) at_once
-        ∙ ap (λ (e : Stop). cond (goes_on f.stops) e f.stops) (end_same (closed_in f.state) (room - length f.gives) (omega (arith, few_given names begin text, enough)))
+        ∙ ap (λ (e : Option Fault). cond (goes_on f.stops) e f.stops) (end_same (closed_in f.state) (room - length f.gives) (omega (arith, few_given names begin text, enough)))
 
     -- The same answer: how many events, or which fault at which place.
     pub live_answer : read_answer names text room

@@ -1,5 +1,6 @@
 -- The open elements, as a list of labels, newest first: how many they are, and what opening and closing make of them.
 -- Assumes nothing.
+use Rattle.std.proofs.Common.{Some}
 use mathlib.Core.Path.{◌≡◌, refl, ap, ◌∙◌}
 use mathlib.Core.Bool.{Bool, true, false}
 use mathlib.Core.List.{List, ◌∷◌}
@@ -58,7 +59,7 @@ module _ {k : ℕ} {l : Levels} (h : Kept k l) where
   kept_shallower = record { few = omega (arith, h.few); room = h.room; known = λ i g. h.known i (omega arith) }
 
   -- The newest, and the others.
-  pub newest_is : (d : ℕ) → l.depth ≡ suc d → newest_of l ≡ get_or l.labels d 0
+  pub newest_is : (d : ℕ) → l.depth ≡ suc d → newest_of l ≡ Some (get_or l.labels d 0)
   newest_is d e =
       let f : suc d ≤ 40 = omega (arith, h.few) in
       let p : suc d - 1 ≡ d = omega arith in

@@ -1,12 +1,13 @@
 -- The reader's steps are the reading of `grammar`, where the list of names is good: from a cursor that stands at a place,
 -- bytes give the same events and are at fault alike. Assumes nothing.
+use Rattle.std.proofs.Common.{Option, Result, Ok, Err}
 use mathlib.Core.Path.{◌≡◌, refl, sym, ap, ap₂, ◌∙◌, subst}
 use mathlib.Core.Bool.{Bool, true, false, cond, ◌&&◌}
 use mathlib.Core.List.{List, [], ◌∷◌}
 use Prim.Native.Nat.{ℕ, zero, suc, ◌+◌, ◌%◌, ◌<◌, ◌≤◌}
 use native.Mathlib.Nat.{mod-eq_of_lt}
 use native.Mathlib.Omega.{arith}
-use borrow.Author.Tests.{ltb-true, ne_eqb}
+use borrow.Author.Tests.{ltb-true}
 use lib.Dec.{eqb, ltb}
 use lib.ListN.{length, get_or}
 use Rattle.grammar.specs.declared.Fault.{Fault}
@@ -14,13 +15,12 @@ use Rattle.grammar.specs.declared.Fault.TheVariants as fault
 use Rattle.grammar.specs.Bytes.{class_of}
 use Rattle.grammar.specs.Names.{place_of, lines_of, good_names}
 use Rattle.grammar.specs.Tags.{Tag, Begun}
-use Rattle.grammar.specs.Feeding.{Step, stopped, stepped, feed, roomed}
+use Rattle.grammar.specs.Feeding.{stopped, stepped, feed, roomed}
 use Rattle.grammar.specs.Reading as reading
 use Rattle.grammar.specs.Reading.{Place, Next, extend, read_step, fresh, judge, judged, close}
 use Rattle.grammar.proofs.Names.{good_list}
 use Rattle.names.specs.declared.Word.{Word}
-use Rattle.names.specs.declared.Label.{Label}
-use Rattle.names.specs.Words.{label_in, labelled}
+use Rattle.names.specs.Words.{label_in, labelled, is_label}
 use Rattle.names.proofs.Classes.{class_blank, class_letter, class_name, class_less, class_slash, class_greater}
 use Rattle.names.proofs.Finding.{eqb_turned}
 use Rattle.names.proofs.Spelling.{Spells, spells_none, spells_more}
@@ -32,7 +32,7 @@ use Rattle.tags.specs.declared.reader.Within.TheVariants as within
 use Rattle.tags.specs.declared.reader.Cursor.{Cursor}
 use Rattle.tags.specs.declared.reader.Stepped.{Stepped}
 use Rattle.tags.specs.Levels.{shallower, newest_of, open_from, open_in}
-use Rattle.tags.specs.Cursors.{begin, faulted, moved, tag_at, judge_in, judge_by, tag_step, step_in, closed_within, closed_in, cursor_step, given_by, stop_by, feed_in}
+use Rattle.tags.specs.Cursors.{begin, moved, tag_at, judge_in, judge_by, tag_step, step_within, step_by, closed_within, closed_in, cursor_step, feed_in}
 use Rattle.tags.proofs.Agreeing.{StepsAgree, FeedsAgree, agree_by, agree_feed, InRoom, agree_roomed}
 use Rattle.tags.proofs.Opened.{Kept, kept_none, open_length, open_deeper, kept_deeper, kept_shallower, newest_is, open_shallower}
 
@@ -69,54 +69,50 @@ depth_is {c = c} s = sym (open_length c.levels.labels c.levels.depth) ∙ ap len
 pub closed_is : {k : ℕ} {c : Cursor} {p : Place} → Stands k c p → closed_in c ≡ reading.closed p
 closed_is s = ap₂ (λ (t u : Bool). t && u) (closed_begun s.tag) (ap (λ (n : ℕ). eqb n 0) (depth_is s))
 
--- A step as it counts for a feed.
-abbrev step_by : Stepped → Step Cursor
-step_by x = record { next = x.next; gives = given_by x.outcome; stops = stop_by x.outcome }
-
 module _ {k : ℕ} (few : k ≤ 32) {c : Cursor} {p : Place} (s : Stands k c p) where
   -- A label is its own remainder.
   below_32 : (a : ℕ) → a < k → a % 32 ≡ a
   below_32 a h = mod-eq_of_lt (omega arith)
 
-  agree_fault : (f : Fault) → StepsAgree (Stands k) (step_by (faulted c f)) (stopped p f)
+  agree_fault : (f : Fault) → StepsAgree (Stands k) (step_by c (Err f)) (stopped p f)
   agree_fault f = record { gives = refl; stops = refl; next = s }
 
   agree_moved : {v : Within} {w : Word} {q : Begun} → Begins w v q
-      → StepsAgree (Stands k) (step_by (moved c v w)) (stepped (record { begun = q; levels = p.levels }) [])
+      → StepsAgree (Stands k) (step_by c (Ok (moved c v w))) (stepped (record { begun = q; levels = p.levels }) [])
   agree_moved t = record { gives = refl; stops = refl; next = record { tag = t; levels = s.levels; kept = s.kept } }
 
   -- After a whole tag.
   agree_tag : {l : Levels} {o : List ℕ} (e : ℕ) → o ≡ open_in l → Kept k l
-      → StepsAgree (Stands k) (step_by (tag_at l e)) (stepped (reading.between o) (e ∷ []))
+      → StepsAgree (Stands k) (step_by c (Ok (tag_at l e))) (stepped (reading.between o) (e ∷ []))
   agree_tag e h g = record { gives = refl; stops = refl; next = record { tag = Begins.nothing; levels = h; kept = g } }
 
-  agree_open : (a : ℕ) (x : List ℕ) → a < k → StepsAgree (Stands k) (step_by (judge_in within.Opening c a)) (judge p a (Tag.opening x))
+  agree_open : (a : ℕ) (x : List ℕ) → a < k → StepsAgree (Stands k) (step_by c (judge_in within.Opening c a)) (judge p a (Tag.opening x))
   agree_open a x h =
-      agree_by (λ x y. StepsAgree (Stands k) (step_by x) y) (ltb c.levels.depth 40) (ltb (length p.levels) 40) (ap (λ (n : ℕ). ltb n 40) (depth_is s))
+      agree_by (λ x y. StepsAgree (Stands k) (step_by c x) y) (ltb c.levels.depth 40) (ltb (length p.levels) 40) (ap (λ (n : ℕ). ltb n 40) (depth_is s))
       (λ t. let d : c.levels.depth < 40 = rw (depth_is s) (ltb-true (length p.levels) 40 t) in
       agree_tag a (ap (λ (o : List ℕ). a ∷ o) s.levels ∙ sym (open_deeper s.kept a d)) (kept_deeper s.kept a h d))
       (agree_fault fault.Deep)
 
-  agree_point : (a : ℕ) (x : List ℕ) → a < k → StepsAgree (Stands k) (step_by (judge_in within.Empty c a)) (judge p a (Tag.empty x))
+  agree_point : (a : ℕ) (x : List ℕ) → a < k → StepsAgree (Stands k) (step_by c (judge_in within.Empty c a)) (judge p a (Tag.empty x))
   agree_point a x h = rw (below_32 a h) (agree_tag (32 + a) s.levels s.kept)
 
-  agree_close : (a : ℕ) (x : List ℕ) → a < k → StepsAgree (Stands k) (step_by (judge_in within.Closing c a)) (judge p a (Tag.closing x))
+  agree_close : (a : ℕ) (x : List ℕ) → a < k → StepsAgree (Stands k) (step_by c (judge_in within.Closing c a)) (judge p a (Tag.closing x))
   agree_close a x h = go c.levels.depth refl
     where
-      go : (d : ℕ) → c.levels.depth ≡ d → StepsAgree (Stands k) (step_by (judge_in within.Closing c a)) (close p a p.levels)
+      go : (d : ℕ) → c.levels.depth ≡ d → StepsAgree (Stands k) (step_by c (judge_in within.Closing c a)) (close p a p.levels)
       go zero e =
           let none : p.levels ≡ [] = s.levels ∙ ap (λ (n : ℕ). open_from c.levels.labels n) e in
-          let far : eqb (newest_of c.levels) a ≡ false = rw e (ne_eqb 255 a (λ q. omega arith)) in
-          subst (λ (o : List ℕ). StepsAgree (Stands k) (step_by (judge_in within.Closing c a)) (close p a o)) (sym none)
-          (subst (λ (t : Bool). StepsAgree (Stands k) (step_by (cond t (tag_at (shallower c.levels) (66 + a % 32)) (faulted c fault.Closing))) (stopped p fault.Closing))
+          let far : is_label (newest_of c.levels) a ≡ false = rw e in
+          subst (λ (o : List ℕ). StepsAgree (Stands k) (step_by c (judge_in within.Closing c a)) (close p a o)) (sym none)
+          (subst (λ (t : Bool). StepsAgree (Stands k) (step_by c (cond t (Ok (tag_at (shallower c.levels) (66 + a % 32))) (Err fault.Closing))) (stopped p fault.Closing))
           (sym far) (agree_fault fault.Closing))
       go (suc d) e =
           let newest = get_or c.levels.labels d 0 in
           let others = open_from c.levels.labels d in
           let some : p.levels ≡ newest ∷ others = s.levels ∙ ap (λ (n : ℕ). open_from c.levels.labels n) e in
-          let test : eqb (newest_of c.levels) a ≡ eqb a newest = ap (λ (n : ℕ). eqb n a) (newest_is s.kept d e) ∙ eqb_turned newest a in
-          subst (λ (o : List ℕ). StepsAgree (Stands k) (step_by (judge_in within.Closing c a)) (close p a o)) (sym some)
-          (agree_by (λ x y. StepsAgree (Stands k) (step_by x) y) (eqb (newest_of c.levels) a) (eqb a newest) test
+          let test : is_label (newest_of c.levels) a ≡ eqb a newest = ap (λ (n : Option ℕ). is_label n a) (newest_is s.kept d e) ∙ eqb_turned newest a in
+          subst (λ (o : List ℕ). StepsAgree (Stands k) (step_by c (judge_in within.Closing c a)) (close p a o)) (sym some)
+          (agree_by (λ x y. StepsAgree (Stands k) (step_by c x) y) (is_label (newest_of c.levels) a) (eqb a newest) test
           (λ t. rw (below_32 a h) (agree_tag (66 + a) (sym (open_shallower s.kept d e)) (kept_shallower s.kept)))
           (agree_fault fault.Closing))
 
@@ -128,24 +124,24 @@ module _ {k : ℕ} (few : k ≤ 32) {c : Cursor} {p : Place} (s : Stands k c p) 
 
     -- A whole tag: its name is judged first.
     agree_whole : {x : List ℕ} {v : Within} (t : Tag) → Spells c.name x → c.within ≡ v
-        → ((a : ℕ) → a < k → StepsAgree (Stands k) (step_by (judge_in v c a)) (judge p a t))
-        → StepsAgree (Stands k) (step_by (tag_step names c)) (judged (lines_of names) p x t)
+        → ((a : ℕ) → a < k → StepsAgree (Stands k) (step_by c (judge_in v c a)) (judge p a t))
+        → StepsAgree (Stands k) (step_by c (tag_step names c)) (judged (lines_of names) p x t)
     agree_whole {x} t h i f =
-        subst (λ (l : Label). StepsAgree (Stands k) (step_by (judge_by l c)) (judged (lines_of names) p x t)) (sym (label_is h))
-        (agree_by (λ (l : Label) y. StepsAgree (Stands k) (step_by (judge_by l c)) y) (ltb (place_of x (lines_of names)) (length (lines_of names)))
+        subst (λ (l : Option ℕ). StepsAgree (Stands k) (step_by c (judge_by l c)) (judged (lines_of names) p x t)) (sym (label_is h))
+        (agree_by (λ (l : Option ℕ) y. StepsAgree (Stands k) (step_by c (judge_by l c)) y) (ltb (place_of x (lines_of names)) (length (lines_of names)))
         (ltb (place_of x (lines_of names)) (length (lines_of names))) refl
         (λ e.
-        subst (λ (u : Within). StepsAgree (Stands k) (step_by (judge_in u c (place_of x (lines_of names)))) (judge p (place_of x (lines_of names)) t)) (sym i)
+        subst (λ (u : Within). StepsAgree (Stands k) (step_by c (judge_in u c (place_of x (lines_of names)))) (judge p (place_of x (lines_of names)) t)) (sym i)
         (f (place_of x (lines_of names)) (subst (λ (n : ℕ). place_of x (lines_of names) < n) count (ltb-true _ _ e))))
         (agree_fault fault.Unknown))
 
     -- A step of the reader agrees with what the reading says of what is begun then.
-    abbrev Moves : Stepped → Next → Type 0
-    Moves x y = StepsAgree (Stands k) (step_by x) (reading.moved (lines_of names) p y)
+    abbrev Moves : Result Stepped Fault → Next → Type 0
+    Moves x y = StepsAgree (Stands k) (step_by c x) (reading.moved (lines_of names) p y)
 
     -- A byte, by what is begun.
     agree_begun : (b : ℕ) {v : Within} {q : Begun} → Begins c.name v q → c.within ≡ v
-        → StepsAgree (Stands k) (step_by (step_in v names c (class_of b) b)) (reading.moved (lines_of names) p (extend q b))
+        → StepsAgree (Stands k) (step_by c (step_within v names c (class_of b) b)) (reading.moved (lines_of names) p (extend q b))
     agree_begun b Begins.nothing e =
         agree_by Moves _ _ (class_blank b) (λ t. agree_moved Begins.nothing)
         (agree_by Moves _ _ (class_less b) (λ t. agree_moved Begins.angle) (agree_fault fault.Byte))

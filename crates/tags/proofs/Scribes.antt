@@ -1,7 +1,8 @@
 -- The writer's steps are the writing of `grammar`, where the list of names is good: from states that are related, events
 -- give the same bytes and are at fault alike. Assumes nothing.
+use Rattle.std.proofs.Common.{Option, Some, None}
 use mathlib.Core.Path.{◌≡◌, refl, sym, ap, ap₂, subst, ◌∙◌}
-use mathlib.Core.Bool.{Bool, true, false, cond, ◌&&◌}
+use mathlib.Core.Bool.{Bool, true, false, ◌&&◌}
 use mathlib.Core.List.{List, [], ◌∷◌}
 use Prim.Native.Nat.{ℕ, zero, suc, ◌%◌, ◌<◌}
 use native.Mathlib.Nat.{mod-eq_of_lt}
@@ -19,7 +20,7 @@ use Rattle.grammar.specs.Tags.{Tag, tag_text}
 use Rattle.grammar.specs.Feeding.{Step, stopped, stepped, feed, roomed}
 use Rattle.grammar.specs.Writing.{Written, unwritten, after_tag, close_tag, close_of_tag, write_event, write_step}
 use Rattle.grammar.proofs.Names.{GoodList, good_list}
-use Rattle.names.specs.Words.{spelt, word_at}
+use Rattle.names.specs.Words.{spelt, word_at, is_label}
 use Rattle.names.proofs.Finding.{eqb_turned}
 use Rattle.names.proofs.Spelling.{Spells, spelt_is, length_short}
 use Rattle.names.proofs.Naming.{word_spells, no_word_lem}
@@ -27,7 +28,7 @@ use Rattle.tags.specs.declared.writer.Scribe.{Scribe}
 use Rattle.tags.specs.declared.writer.Form.TheVariants as form
 use Rattle.tags.specs.declared.writer.Spelled.{Spelled}
 use Rattle.tags.specs.Levels.{deeper_by, shallower, newest_of, open_from, open_in}
-use Rattle.tags.specs.Writers.{begin, wrong, written, has_name, close_event, close_of_event, event_step, spell_step, gives_by, stop_by, scribe_step, follow_in, write_in}
+use Rattle.tags.specs.Writers.{begin, written, has_name, close_event, close_of_event, event_step, spell_step, step_by, scribe_step, follow_in, write_in}
 use Rattle.tags.proofs.Agreeing.{StepsAgree, FeedsAgree, agree_by, agree_feed, InRoom, agree_roomed}
 use Rattle.tags.proofs.Opened.{Kept, kept_none, open_length, open_deeper, kept_deeper, kept_shallower, newest_is, open_shallower}
 
@@ -41,12 +42,10 @@ pub keeps_begin : (k : ℕ) → Keeps k begin unwritten
 keeps_begin k = record { levels = refl; ended = refl; kept = kept_none k }
 
 -- An event as the writer spells it does what that step does.
-record Agrees (k : ℕ) (x : Spelled) (y : Step Written) : Type 0 where
-  gives : gives_by x.given x.name ≡ y.gives
-  stops : stop_by x.given ≡ y.stops
-  next : Keeps k x.next y.next
+abbrev Agrees : ℕ → Scribe → Option Spelled → Step Written → Type 0
+Agrees k s x y = StepsAgree (Keeps k) (step_by s x) y
 
-agree_wrong : {k : ℕ} {s : Scribe} {w : Written} → Keeps k s w → Agrees k (wrong s) (stopped w fault.Byte)
+agree_wrong : {k : ℕ} {s : Scribe} {w : Written} → Keeps k s w → Agrees k s None (stopped w fault.Byte)
 agree_wrong h = record { gives = refl; stops = refl; next = h }
 
 -- As many are open.
@@ -84,13 +83,13 @@ module _ (names : List ℕ) (good : good_names names ≡ true) where
       go false e = ap has_name (no_word_lem names a (ltb-false a (length ns) e))
 
   module _ {s : Scribe} {w : Written} (h : Keeps (length ns) s w) where
-    agree_open : (a : ℕ) → Agrees (length ns) (event_step names s (event.Open a)) (write_event ns w (event.Open a))
+    agree_open : (a : ℕ) → Agrees (length ns) s (event_step names s (event.Open a)) (write_event ns w (event.Open a))
     agree_open a =
-        agree_by (Agrees (length ns)) (has_name (word_at names a) && ltb s.levels.depth 40) (ltb a (length ns) && ltb (length w.levels) 40)
+        agree_by (Agrees (length ns) s) (has_name (word_at names a) && ltb s.levels.depth 40) (ltb a (length ns) && ltb (length w.levels) 40)
         (ap₂ ◌&&◌ (has_name_lem a) (ap (λ (d : ℕ). ltb d 40) (depth_is h))) opens (agree_wrong h)
       where
         opens : ltb a (length ns) && ltb (length w.levels) 40 ≡ true
-            → Agrees (length ns) (written (deeper_by s.levels (a % 256)) form.Opening (word_at names a))
+            → Agrees (length ns) s (Some (written (deeper_by s.levels (a % 256)) form.Opening (word_at names a)))
             (stepped (after_tag (a ∷ w.levels)) (tag_text (Tag.opening (name_at ns a))))
         opens e =
             let p = both_true (ltb a (length ns)) (ltb (length w.levels) 40) e in
@@ -103,9 +102,9 @@ module _ (names : List ℕ) (good : good_names names ≡ true) where
               next = rw m (record { levels = rw (open_deeper h.kept a f, h.levels); ended = refl; kept = kept_deeper h.kept a l f });
             }
 
-    agree_point : (a : ℕ) → Agrees (length ns) (event_step names s (event.Point a)) (write_event ns w (event.Point a))
+    agree_point : (a : ℕ) → Agrees (length ns) s (event_step names s (event.Point a)) (write_event ns w (event.Point a))
     agree_point a =
-        agree_by (Agrees (length ns)) (has_name (word_at names a)) (ltb a (length ns)) (has_name_lem a)
+        agree_by (Agrees (length ns) s) (has_name (word_at names a)) (ltb a (length ns)) (has_name_lem a)
         (λ e. record {
           gives = ap (λ (x : List ℕ). tag_text (Tag.empty x)) (word_is a (ltb-true a (length ns) e));
           stops = refl;
@@ -113,29 +112,27 @@ module _ (names : List ℕ) (good : good_names names ≡ true) where
         })
         (agree_wrong h)
 
-    agree_end : Agrees (length ns) (event_step names s event.End) (write_event ns w event.End)
+    agree_end : Agrees (length ns) s (event_step names s event.End) (write_event ns w event.End)
     agree_end =
-        agree_by (Agrees (length ns)) (eqb s.levels.depth 0) (eqb (length w.levels) 0) (ap (λ (d : ℕ). eqb d 0) (depth_is h))
+        agree_by (Agrees (length ns) s) (eqb s.levels.depth 0) (eqb (length w.levels) 0) (ap (λ (d : ℕ). eqb d 0) (depth_is h))
         (λ e. record { gives = refl; stops = refl; next = record { levels = h.levels; ended = refl; kept = h.kept } })
         (agree_wrong h)
 
     -- With nothing open there is no newest; else the newest is closed.
-    none_open : s.levels.depth ≡ 0 → close_event names s ≡ wrong s
-    none_open e =
-        let none : newest_of s.levels ≡ 255 = rw e in
-        rw none
+    none_open : s.levels.depth ≡ 0 → newest_of s.levels ≡ None
+    none_open e = rw e
 
-    agree_close : Agrees (length ns) (event_step names s event.Close) (write_event ns w event.Close)
+    agree_close : Agrees (length ns) s (event_step names s event.Close) (write_event ns w event.Close)
     agree_close = go s.levels.depth refl
       where
-        go : (d : ℕ) → s.levels.depth ≡ d → Agrees (length ns) (close_event names s) (close_tag ns w w.levels)
+        go : (d : ℕ) → s.levels.depth ≡ d → Agrees (length ns) s (close_event names s) (close_tag ns w w.levels)
         go zero e =
             let o : close_tag ns w w.levels ≡ stopped w fault.Byte = ap (close_tag ns w) (h.levels ∙ ap (open_from s.levels.labels) e) in
             rw (none_open e, o) (agree_wrong h)
         go (suc d) e =
             let l : get_or s.levels.labels d 0 < length ns = h.kept.known d (omega arith) in
             let t : has_name (word_at names (get_or s.levels.labels d 0)) ≡ true = has_name_lem (get_or s.levels.labels d 0) ∙ lt-ltb (get_or s.levels.labels d 0) (length ns) l in
-            let q : close_event names s ≡ written (shallower s.levels) form.Closing (word_at names (get_or s.levels.labels d 0)) =
+            let q : close_event names s ≡ Some (written (shallower s.levels) form.Closing (word_at names (get_or s.levels.labels d 0))) =
             rw (newest_is h.kept d e, t) in
             let o : w.levels ≡ get_or s.levels.labels d 0 ∷ open_from s.levels.labels d = h.levels ∙ ap (open_from s.levels.labels) e in
             rw (q, o)
@@ -146,27 +143,23 @@ module _ (names : List ℕ) (good : good_names names ≡ true) where
             })
 
     -- A close that names a label does so too, where that is the newest's.
-    agree_close_of : (a : ℕ) → Agrees (length ns) (event_step names s (event.CloseOf a)) (write_event ns w (event.CloseOf a))
+    agree_close_of : (a : ℕ) → Agrees (length ns) s (event_step names s (event.CloseOf a)) (write_event ns w (event.CloseOf a))
     agree_close_of a = go s.levels.depth refl
       where
-        go : (d : ℕ) → s.levels.depth ≡ d → Agrees (length ns) (close_of_event names s a) (close_of_tag ns w a w.levels)
+        go : (d : ℕ) → s.levels.depth ≡ d → Agrees (length ns) s (close_of_event names s a) (close_of_tag ns w a w.levels)
         go zero e =
             let o : close_of_tag ns w a w.levels ≡ stopped w fault.Byte = ap (close_of_tag ns w a) (h.levels ∙ ap (open_from s.levels.labels) e) in
-            rw (none_open e, o) (either (eqb (newest_of s.levels) a))
-          where
-            either : (t : Bool) → Agrees (length ns) (cond t (wrong s) (wrong s)) (stopped w fault.Byte)
-            either true = agree_wrong h
-            either false = agree_wrong h
+            rw (none_open e, o) (agree_wrong h)
         go (suc d) e =
             let c = get_or s.levels.labels d 0 in
             let o : w.levels ≡ c ∷ open_from s.levels.labels d = h.levels ∙ ap (open_from s.levels.labels) e in
-            let test : eqb (newest_of s.levels) a ≡ eqb a c = ap (λ (n : ℕ). eqb n a) (newest_is h.kept d e) ∙ eqb_turned c a in
-            subst (λ (l : List ℕ). Agrees (length ns) (close_of_event names s a) (close_of_tag ns w a l)) (sym o)
-            (agree_by (Agrees (length ns)) (eqb (newest_of s.levels) a) (eqb a c) test
-            (λ t. subst (λ (l : List ℕ). Agrees (length ns) (close_event names s) (close_tag ns w l)) o agree_close)
+            let test : is_label (newest_of s.levels) a ≡ eqb a c = ap (λ (n : Option ℕ). is_label n a) (newest_is h.kept d e) ∙ eqb_turned c a in
+            subst (λ (l : List ℕ). Agrees (length ns) s (close_of_event names s a) (close_of_tag ns w a l)) (sym o)
+            (agree_by (Agrees (length ns) s) (is_label (newest_of s.levels) a) (eqb a c) test
+            (λ t. subst (λ (l : List ℕ). Agrees (length ns) s (close_event names s) (close_tag ns w l)) o agree_close)
             (agree_wrong h))
 
-    agree_event : (e : Event) → Agrees (length ns) (event_step names s e) (write_event ns w e)
+    agree_event : (e : Event) → Agrees (length ns) s (event_step names s e) (write_event ns w e)
     agree_event (event.Open a) = agree_open a
     agree_event (event.Point a) = agree_point a
     agree_event event.Close = agree_close
@@ -174,11 +167,11 @@ module _ (names : List ℕ) (good : good_names names ≡ true) where
     agree_event event.End = agree_end
     agree_event event.Unknown = agree_wrong h
 
-    agree_spell : (b : ℕ) → Agrees (length ns) (spell_step names s b) (write_step ns w b)
-    agree_spell b = agree_by (Agrees (length ns)) s.ended w.ended h.ended (λ e. agree_wrong h) (agree_event (meaning_of b))
+    agree_spell : (b : ℕ) → Agrees (length ns) s (spell_step names s b) (write_step ns w b)
+    agree_spell b = agree_by (Agrees (length ns) s) s.ended w.ended h.ended (λ e. agree_wrong h) (agree_event (meaning_of b))
 
   agree_step : (s : Scribe) (w : Written) (b : ℕ) → Keeps (length ns) s w → StepsAgree (Keeps (length ns)) (scribe_step names s b) (write_step ns w b)
-  agree_step s w b h = let a = agree_spell h b in record { gives = a.gives; stops = a.stops; next = a.next }
+  agree_step s w b h = agree_spell h b
 
   -- All events.
   pub scribe_writes : (s : Scribe) (w : Written) (es : List ℕ) → Keeps (length (lines_of names)) s w

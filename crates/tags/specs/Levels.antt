@@ -1,5 +1,5 @@
 -- The open elements as the reader and the writer hold them. Definitions only.
-use Rattle.std.specs.Prelude.{Bool, cond, ◌||◌, List, [], ◌∷◌, ℕ, zero, suc, ◌+◌, ◌-◌, eqb, ltb, get_or, set, replicate}
+use Rattle.std.specs.Prelude.{Bool, cond, ◌||◌, List, [], ◌∷◌, ℕ, zero, suc, ◌+◌, ◌-◌, eqb, ltb, get_or, set, replicate, Option, Some, None}
 use Rattle.tags.specs.declared.levels.Levels.{Levels}
 
 abbrev pub no_levels : Levels
@@ -15,9 +15,9 @@ shallower l = record { labels = l.labels; depth = l.depth - 1 }
 abbrev pub no_newest : Levels → Bool
 no_newest l = eqb l.depth 0 || ltb 40 l.depth
 
--- The label of the newest; 255, which is no label, where there is none.
-abbrev pub newest_of : Levels → ℕ
-newest_of l = cond (no_newest l) 255 (get_or l.labels (l.depth - 1) 0)
+-- The label of the newest.
+abbrev pub newest_of : Levels → Option ℕ
+newest_of l = cond (no_newest l) None (Some (get_or l.labels (l.depth - 1) 0))
 
 -- The labels, newest first.
 abbrev pub open_from : List ℕ → ℕ → List ℕ

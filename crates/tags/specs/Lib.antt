@@ -1,3 +1,4 @@
 pub mod Levels
+pub mod Feeding
 pub mod Cursors
 pub mod Writers

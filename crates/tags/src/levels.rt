@@ -3,6 +3,7 @@ ghost use Rattle.std.specs.Prelude.{◌≡◌};
 ghost use Rattle.tags.specs.Levels.{no_levels, deeper_by, shallower, newest_of};
 
 // The label of each open element, the outermost first, and how many are open. What stands after those does not count.
+// An array beside a count, since the reader and the writer have fixed memory and no heap.
 #[derive(Clone, Copy)]
 pub struct Levels {
     pub labels: [u8; 40],
@@ -37,21 +38,18 @@ impl Levels {
         ensures { result ≡ shallower self }
     {
         let mut next = self;
-        if 0 < next.depth {
-            next.depth = next.depth - 1;
-        }
+        next.depth = next.depth.saturating_sub(1);
         next
     }
 
-    // The label of the newest open element; 255, which is no label, where none is open, or more than may be.
-    pub fn newest(self) -> u8
+    // The label of the newest open element. A value in which more than 40 are open has none.
+    pub fn newest(self) -> Option<u8>
         ensures { result ≡ newest_of self }
     {
-        let depth = self.depth;
-        if (depth == 0) | (40 < depth) {
-            return 255;
+        if self.depth == 0 || 40 < self.depth {
+            None
+        } else {
+            Some(self.labels[self.depth - 1])
         }
-        let labels = self.labels;
-        labels[depth - 1]
     }
 }

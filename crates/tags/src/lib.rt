@@ -2,6 +2,7 @@
 // come to, stands in the crate `grammar`. No public function asks anything of its caller.
 #![tactic(auto)]
 
+mod feeding;
 pub mod levels;
 pub mod reader;
 pub mod writer;

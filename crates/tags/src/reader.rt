@@ -1,15 +1,18 @@
 // The reader: tagged text in, event bytes out. A cursor, by value, says how far a text is read, so that it can be fed in
 // pieces; `read` takes a whole text, and judges all of it before it writes.
-ghost use Rattle.std.specs.Prelude.{◌≡◌, ◌+◌, ◌-◌, ◌<◌, length, set};
+ghost use Rattle.std.specs.Prelude.{◌≡◌, length};
 ghost use Rattle.grammar.specs.Reading.{read_answer, read_out, end_stop};
-ghost use Rattle.tags.specs.Cursors.{begin, faulted, moved, closed_in, tag_at, open_step, close_step, point_step, tag_step, between, angle, slashed, opening, closing, empty, step_of, feed_in, fed_by, fed_of, feed_out, whole_stop};
+ghost use Rattle.tags.specs.Feeding.{fed_of};
+ghost use Rattle.tags.specs.Cursors.{begin, moved, closed_in, tag_at, open_step, close_step, point_step, tag_step, between, angle, slashed, opening, closing, empty, step_of, cursor_step, feed_in, feed_out, whole_stop};
 
+use crate::feeding;
+use crate::feeding::{Steps, Taken};
 use crate::levels::Levels;
-use grammar::{Fault, Reading, Stop};
-use names::{Label, Word};
+use grammar::{Class, Fault, ReadError};
+use names::Word;
 
 // What is begun of a tag: nothing, "<", "</", "<x", "</x" or "<x/".
-#[derive(Clone, Copy)]
+#[derive(Clone, Copy, Debug, PartialEq, Eq)]
 pub enum Within {
     Between,
     Angle,
@@ -27,19 +30,11 @@ pub struct Cursor {
     pub levels: Levels,
 }
 
-// What a byte gives: no event, an event, or a fault.
-#[derive(Clone, Copy)]
-pub enum Outcome {
-    Nothing,
-    Event(u8),
-    Fault(Fault),
-}
-
-// A byte's outcome, and the cursor after it; where the byte is at fault, the cursor as it was.
+// The cursor after a byte, and the event that the byte gives, if it ends a tag.
 #[derive(Clone, Copy)]
 pub struct Stepped {
     pub next: Cursor,
-    pub outcome: Outcome,
+    pub event: Option<u8>,
 }
 
 impl Cursor {
@@ -54,28 +49,17 @@ impl Cursor {
         }
     }
 
-    // The byte is at fault.
-    fn fault(self, fault: Fault) -> Stepped
-        ensures { result ≡ faulted self fault }
-    {
-        Stepped {
-            next: self,
-            outcome: Outcome::Fault(fault),
-        }
-    }
-
     // More of a tag is begun.
     fn goes(self, within: Within, name: Word) -> Stepped
         ensures { result ≡ moved self within name }
     {
-        let levels = self.levels;
         Stepped {
             next: Cursor {
-                within: within,
-                name: name,
-                levels: levels,
+                within,
+                name,
+                levels: self.levels,
             },
-            outcome: Outcome::Nothing,
+            event: None,
         }
     }
 
@@ -83,16 +67,7 @@ impl Cursor {
     pub fn closed(self) -> bool
         ensures { result ≡ closed_in self }
     {
-        let within = self.within;
-        let levels = self.levels;
-        match within {
-            Within::Between => levels.depth == 0,
-            Within::Angle => false,
-            Within::Slashed => false,
-            Within::Opening => false,
-            Within::Closing => false,
-            Within::Empty => false,
-        }
+        matches!(self.within, Within::Between) && self.levels.depth == 0
     }
 }
 
@@ -104,34 +79,34 @@ fn tag_at(levels: Levels, event: u8) -> Stepped
         next: Cursor {
             within: Within::Between,
             name: Word::none(),
-            levels: levels,
+            levels,
         },
-        outcome: Outcome::Event(event),
+        event: Some(event),
     }
 }
 
 // An opening tag of a known name.
-fn open_step(cursor: Cursor, label: u8) -> Stepped
+fn open_step(cursor: Cursor, label: u8) -> Result<Stepped, Fault>
     ensures { result ≡ open_step cursor label }
 {
     let levels = cursor.levels;
     if levels.depth < 40 {
-        tag_at(levels.deeper(label), label)
+        Ok(tag_at(levels.deeper(label), label))
     } else {
-        cursor.fault(Fault::Deep)
+        Err(Fault::Deep)
     }
 }
 
 // A closing tag of a known name gives the close that names its label, which is below 32; one that is not is taken for its
 // remainder.
-fn close_step(cursor: Cursor, label: u8) -> Stepped
+fn close_step(cursor: Cursor, label: u8) -> Result<Stepped, Fault>
     ensures { result ≡ close_step cursor label }
 {
     let levels = cursor.levels;
-    if levels.newest() == label {
-        tag_at(levels.shallower(), 66 + label % 32)
+    if levels.newest() == Some(label) {
+        Ok(tag_at(levels.shallower(), 66 + label % 32))
     } else {
-        cursor.fault(Fault::Closing)
+        Err(Fault::Closing)
     }
 }
 
@@ -139,115 +114,93 @@ fn close_step(cursor: Cursor, label: u8) -> Stepped
 fn point_step(cursor: Cursor, label: u8) -> Stepped
     ensures { result ≡ point_step cursor label }
 {
-    let levels = cursor.levels;
-    tag_at(levels, 32 + label % 32)
+    tag_at(cursor.levels, 32 + label % 32)
 }
 
 // A tag at its ">": its name is judged first.
-fn tag_step(names: &[u8], cursor: Cursor) -> Stepped
+fn tag_step(names: &[u8], cursor: Cursor) -> Result<Stepped, Fault>
     ensures { result ≡ tag_step names.now cursor }
 {
-    let within = cursor.within;
-    let name = cursor.name;
-    let label = names::label_of(names, name);
-    match label {
-        Label::None => cursor.fault(Fault::Unknown),
-        Label::Is(a) => match within {
-            Within::Opening => open_step(cursor, a),
-            Within::Closing => close_step(cursor, a),
-            Within::Empty => point_step(cursor, a),
-            Within::Between => cursor.fault(Fault::Byte),
-            Within::Angle => cursor.fault(Fault::Byte),
-            Within::Slashed => cursor.fault(Fault::Byte),
-        },
+    let label = names::label_of(names, cursor.name).ok_or(Fault::Unknown)?;
+    match cursor.within {
+        Within::Opening => open_step(cursor, label),
+        Within::Closing => close_step(cursor, label),
+        Within::Empty => Ok(point_step(cursor, label)),
+        Within::Between | Within::Angle | Within::Slashed => Err(Fault::Byte),
     }
 }
 
 // Between tags: a blank or "<".
-fn between(cursor: Cursor, class: u8) -> Stepped
+fn between(cursor: Cursor, class: Class) -> Result<Stepped, Fault>
     ensures { result ≡ between cursor class }
 {
-    if class == names::BLANK {
-        cursor.goes(Within::Between, Word::none())
-    } else if class == names::LESS {
-        cursor.goes(Within::Angle, Word::none())
-    } else {
-        cursor.fault(Fault::Byte)
+    match class {
+        Class::Blank => Ok(cursor.goes(Within::Between, Word::none())),
+        Class::Less => Ok(cursor.goes(Within::Angle, Word::none())),
+        _ => Err(Fault::Byte),
     }
 }
 
 // After "<": a letter or "/".
-fn angle(cursor: Cursor, class: u8, byte: u8) -> Stepped
+fn angle(cursor: Cursor, class: Class, byte: u8) -> Result<Stepped, Fault>
     ensures { result ≡ angle cursor class byte }
 {
-    if class == names::LETTER {
-        cursor.goes(Within::Opening, Word::none().with(byte))
-    } else if class == names::SLASH {
-        cursor.goes(Within::Slashed, Word::none())
-    } else {
-        cursor.fault(Fault::Byte)
+    match class {
+        Class::Letter => Ok(cursor.goes(Within::Opening, Word::none().with(byte))),
+        Class::Slash => Ok(cursor.goes(Within::Slashed, Word::none())),
+        _ => Err(Fault::Byte),
     }
 }
 
 // After "</": a letter.
-fn slashed(cursor: Cursor, class: u8, byte: u8) -> Stepped
+fn slashed(cursor: Cursor, class: Class, byte: u8) -> Result<Stepped, Fault>
     ensures { result ≡ slashed cursor class byte }
 {
-    if class == names::LETTER {
-        cursor.goes(Within::Closing, Word::none().with(byte))
-    } else {
-        cursor.fault(Fault::Byte)
+    match class {
+        Class::Letter => Ok(cursor.goes(Within::Closing, Word::none().with(byte))),
+        _ => Err(Fault::Byte),
     }
 }
 
 // In the name of an opening tag: a name byte, ">" or "/".
-fn opening(names: &[u8], cursor: Cursor, class: u8, byte: u8) -> Stepped
+fn opening(names: &[u8], cursor: Cursor, class: Class, byte: u8) -> Result<Stepped, Fault>
     ensures { result ≡ opening names.now cursor class byte }
 {
-    let name = cursor.name;
-    if (class == names::LETTER) | (class == names::NAME) {
-        cursor.goes(Within::Opening, name.with(byte))
-    } else if class == names::GREATER {
-        tag_step(names, cursor)
-    } else if class == names::SLASH {
-        cursor.goes(Within::Empty, name)
-    } else {
-        cursor.fault(Fault::Byte)
+    match class {
+        Class::Letter | Class::Name => Ok(cursor.goes(Within::Opening, cursor.name.with(byte))),
+        Class::Greater => tag_step(names, cursor),
+        Class::Slash => Ok(cursor.goes(Within::Empty, cursor.name)),
+        _ => Err(Fault::Byte),
     }
 }
 
 // In the name of a closing tag: a name byte or ">".
-fn closing(names: &[u8], cursor: Cursor, class: u8, byte: u8) -> Stepped
+fn closing(names: &[u8], cursor: Cursor, class: Class, byte: u8) -> Result<Stepped, Fault>
     ensures { result ≡ closing names.now cursor class byte }
 {
-    let name = cursor.name;
-    if (class == names::LETTER) | (class == names::NAME) {
-        cursor.goes(Within::Closing, name.with(byte))
-    } else if class == names::GREATER {
-        tag_step(names, cursor)
-    } else {
-        cursor.fault(Fault::Byte)
+    match class {
+        Class::Letter | Class::Name => Ok(cursor.goes(Within::Closing, cursor.name.with(byte))),
+        Class::Greater => tag_step(names, cursor),
+        _ => Err(Fault::Byte),
     }
 }
 
 // After the "/" of an empty-element tag: ">".
-fn empty(names: &[u8], cursor: Cursor, class: u8) -> Stepped
+fn empty(names: &[u8], cursor: Cursor, class: Class) -> Result<Stepped, Fault>
     ensures { result ≡ empty names.now cursor class }
 {
-    if class == names::GREATER {
-        tag_step(names, cursor)
-    } else {
-        cursor.fault(Fault::Byte)
+    match class {
+        Class::Greater => tag_step(names, cursor),
+        _ => Err(Fault::Byte),
     }
 }
 
 // One byte. The names are the first 32 lines of the list.
-pub fn step(names: &[u8], cursor: Cursor, byte: u8) -> Stepped
+pub fn step(names: &[u8], cursor: Cursor, byte: u8) -> Result<Stepped, Fault>
     ensures { result ≡ step_of names.now cursor byte }
 {
     let class = names::class_of(byte);
-    let within = cursor.within;
-    match within {
+    match cursor.within {
         Within::Between => between(cursor, class),
         Within::Angle => angle(cursor, class, byte),
         Within::Slashed => slashed(cursor, class, byte),
@@ -257,56 +210,41 @@ pub fn step(names: &[u8], cursor: Cursor, byte: u8) -> Stepped
     }
 }
 
-// What became of a piece of text: where it led, how many bytes were taken, how many events were given, and the fault that
-// stopped it at the next byte.
-#[derive(Clone, Copy)]
-pub struct Fed {
-    pub next: Cursor,
-    pub taken: usize,
-    pub given: usize,
-    pub stop: Stop,
-}
+impl Steps for Cursor {
+    ghost step = { cursor_step };
 
-impl Fed {
-    fn made(next: Cursor, taken: usize, given: usize, stop: Stop) -> Fed
-        ensures { result ≡ fed_by next taken given stop }
-    {
-        Fed {
-            next: next,
-            taken: taken,
-            given: given,
-            stop: stop,
+    fn take(
+        self,
+        names: &[u8],
+        byte: u8,
+        room: usize,
+        out: &mut [u8],
+        at: usize,
+    ) -> Result<Taken<Cursor>, Fault> {
+        let stepped = step(names, self, byte)?;
+        if let Some(event) = stepped.event {
+            if room == 0 {
+                return Err(Fault::Short);
+            }
+            if at < out.len() {
+                out[at] = event;
+            }
         }
+        Ok(Taken {
+            next: stepped.next,
+            given: usize::from(stepped.event.is_some()),
+        })
     }
 }
+
+// What became of a piece of text: what was taken are its bytes, and what was given are events.
+pub type Fed = feeding::Fed<Cursor>;
 
 // A piece of text, with room for so many events: what `feed` would answer. Nothing is written.
 pub fn survey(names: &[u8], cursor: Cursor, piece: &[u8], room: usize) -> Fed
     ensures { result ≡ fed_of (feed_in names.now cursor room piece.now) }
 {
-    let mut at = cursor;
-    let mut taken: usize = 0;
-    let mut given: usize = 0;
-    while taken < piece.len() {
-        let byte = piece[taken];
-        let found = step(names, at, byte);
-        let outcome = found.outcome;
-        match outcome {
-            Outcome::Fault(fault) => {
-                return Fed::made(at, taken, given, Stop::At(fault));
-            }
-            Outcome::Event(_) => {
-                if room <= given {
-                    return Fed::made(at, taken, given, Stop::At(Fault::Short));
-                }
-                given += 1;
-            }
-            Outcome::Nothing => {}
-        }
-        at = found.next;
-        taken += 1;
-    }
-    Fed::made(at, taken, given, Stop::Not)
+    feeding::feed(names, cursor, piece, room, &mut [])
 }
 
 // A piece of text: its events are written from the front of the output, as far as it goes on without a fault.
@@ -314,90 +252,46 @@ pub fn feed(names: &[u8], cursor: Cursor, piece: &[u8], out: &mut [u8]) -> Fed
     ensures value { result ≡ fed_of (feed_in names.now cursor (length out.old) piece.now) }
     ensures out_after { out.new ≡ feed_out names.now cursor piece.now out.old }
 {
-    let mut at = cursor;
-    let mut taken: usize = 0;
-    let mut given: usize = 0;
-    while taken < piece.len() {
-        let byte = piece[taken];
-        let found = step(names, at, byte);
-        let outcome = found.outcome;
-        match outcome {
-            Outcome::Fault(fault) => {
-                return Fed::made(at, taken, given, Stop::At(fault));
-            }
-            Outcome::Event(event) => {
-                if out.len() <= given {
-                    return Fed::made(at, taken, given, Stop::At(Fault::Short));
-                }
-                out[given] = event;
-                given += 1;
-            }
-            Outcome::Nothing => {}
-        }
-        at = found.next;
-        taken += 1;
-    }
-    Fed::made(at, taken, given, Stop::Not)
+    feeding::feed(names, cursor, piece, out.len(), out)
 }
 
-// The text's end: nothing may be open, and there is room for byte 65.
-pub fn end(cursor: Cursor, room: usize) -> Stop
+// The fault at the text's end: something is open, or there is no room for byte 65.
+pub fn end(cursor: Cursor, room: usize) -> Option<Fault>
     ensures { result ≡ end_stop (closed_in cursor) room }
 {
     if !cursor.closed() {
-        return Stop::At(Fault::Ended);
-    }
-    if 0 < room {
-        Stop::Not
+        Some(Fault::Ended)
+    } else if 0 < room {
+        None
     } else {
-        Stop::At(Fault::Short)
+        Some(Fault::Short)
     }
-}
-
-// The room that is left of so much.
-fn left(room: usize, given: usize) -> usize
-    ensures { result ≡ room - given }
-{
-    if given < room { room - given } else { 0 }
 }
 
 // The fault of a whole text, if it has one: the first byte's, or else the end's.
-fn whole(fed: Fed, room: usize) -> Stop
+fn whole(fed: Fed, room: usize) -> Option<Fault>
     ensures { result ≡ whole_stop fed room }
 {
-    let stop = fed.stop;
-    match stop {
-        Stop::At(_) => stop,
-        Stop::Not => end(fed.next, left(room, fed.given)),
+    match fed.stop {
+        Some(fault) => Some(fault),
+        None => end(fed.next, room.saturating_sub(fed.given)),
     }
 }
 
-// Byte 65 after so many events. Answers how many there are then.
-fn put_end(out: &mut [u8], given: usize) -> usize
-    requires { given < length out.old }
-    ensures { (result ≡ given + 1) × (out.new ≡ set out.old given 65) }
-{
-    out[given] = 65;
-    given + 1
-}
-
-// A whole text: its events and byte 65, from the front of the output. A refusal writes nothing.
-pub fn read(names: &[u8], text: &[u8], out: &mut [u8]) -> Reading
+// A whole text: its events and byte 65, from the front of the output. Answers how many there are. A refusal writes nothing.
+pub fn read(names: &[u8], text: &[u8], out: &mut [u8]) -> Result<usize, ReadError>
     ensures value { result ≡ read_answer names.now text.now (length out.old) }
     ensures out_after { out.new ≡ read_out names.now text.now out.old }
 {
     if !names::good(names) {
-        return Reading::Names;
+        return Err(ReadError::Names);
     }
     let room = out.len();
     let fed = survey(names, Cursor::begin(), text, room);
-    let given = fed.given;
-    let stop = whole(fed, room);
-    match stop {
-        Stop::At(fault) => Reading::Refused(fault, fed.taken),
-        Stop::Not => {
-            feed(names, Cursor::begin(), text, out);
-            Reading::Taken(put_end(out, given))
-        }
+    if let Some(fault) = whole(fed, room) {
+        return Err(ReadError::Text(fault, fed.taken));
     }
+    feed(names, Cursor::begin(), text, out);
+    out[fed.given] = 65;
+    Ok(fed.given + 1)
 }

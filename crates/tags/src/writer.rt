@@ -1,15 +1,17 @@
 // The writer: event bytes in, tagged text without blanks out. A scribe, by value, says how far a stream is written, so
 // that it can go on in pieces; `write` takes a whole stream, and judges all of it before it writes.
-ghost use Rattle.std.specs.Prelude.{◌≡◌, ◌&&◌, ◌++◌, ◌+◌, ◌≤◌, length};
+ghost use Rattle.std.specs.Prelude.{◌≡◌, ◌&&◌, ◌+◌, ◌≤◌, length};
+ghost use Rattle.meaning.specs.Lent.{put_at};
 ghost use Rattle.grammar.specs.Feeding.{goes_on};
 ghost use Rattle.grammar.specs.Writing.{write_answer, write_out};
-ghost use Rattle.names.specs.Words.{spelt};
-ghost use Rattle.tags.specs.Writers.{begin, wrong, written, ended, has_name, tag_bytes, tag_length, Writable, open_event, point_event, close_event, close_of_event, event_step, spell_step, is_fault, gives_by, less_by, follow_in, follow_of, write_in, wrote_of, written_out};
-ghost use Rattle.meaning.specs.Lent.{put_at};
+ghost use Rattle.tags.specs.Feeding.{fed_of};
+ghost use Rattle.tags.specs.Writers.{begin, written, ended, has_name, head_of, tail_of, tag_bytes, open_event, point_event, close_event, close_of_event, event_step, spell_step, scribe_step, gives_by, less_by, follower_step, follow_in, follow_of, write_in, written_out};
 
+use crate::feeding;
+use crate::feeding::{Steps, Taken};
 use crate::levels::Levels;
 use answers::Event;
-use grammar::{Fault, Stop, Writing};
+use grammar::{Fault, WriteError};
 use names::Word;
 
 // How far a stream is written: the open elements, and whether byte 65 was read.
@@ -20,54 +22,35 @@ pub struct Scribe {
 }
 
 // The three forms of a tag: <x>, </x> and <x/>.
-#[derive(Clone, Copy)]
+#[derive(Clone, Copy, Debug, PartialEq, Eq)]
 pub enum Form {
     Opening,
     Closing,
     Empty,
 }
 
-// What an event gives: nothing, which is the end's, a tag, or a fault.
 #[derive(Clone, Copy)]
-pub enum Given {
-    Nothing,
-    Tag(Form),
-    Fault,
-}
-
-// What an event gives, with the tag's name, and the scribe after it; where the event is at fault, the scribe as it was.
-#[derive(Clone, Copy)]
-pub struct Spelled {
-    pub next: Scribe,
-    pub given: Given,
+pub struct Tag {
+    pub form: Form,
     pub name: Word,
 }
 
-// Room for tags: how much of it is left, and whether all of them fitted.
+// The scribe after an event, and the tag that the event gives; the stream's end gives none.
 #[derive(Clone, Copy)]
-struct Space {
-    pub left: usize,
-    pub fits: bool,
+pub struct Spelled {
+    pub next: Scribe,
+    pub tag: Option<Tag>,
 }
 
-// Where events lead without being written: how many are taken, what room their tags leave, and whether the next stops them.
+// A scribe whose tags are not written, and what they leave of the room, if they fit.
 #[derive(Clone, Copy)]
-struct Followed {
-    pub next: Scribe,
-    pub taken: usize,
-    pub space: Space,
-    pub stop: Stop,
+struct Follower {
+    scribe: Scribe,
+    left: Option<usize>,
 }
 
-// What a piece of a stream comes to: the scribe after it, how many events are taken, how many bytes are written, and
-// whether the next event stops it.
-#[derive(Clone, Copy)]
-pub struct Wrote {
-    pub next: Scribe,
-    pub taken: usize,
-    pub given: usize,
-    pub stop: Stop,
-}
+// What a piece of a stream comes to: what is taken are its events, and what is given are bytes of tags.
+pub type Wrote = feeding::Fed<Scribe>;
 
 impl Scribe {
     // Nothing is written yet.
@@ -80,33 +63,20 @@ impl Scribe {
         }
     }
 
-    // No whole stream goes on with the event.
-    fn wrong(self) -> Spelled
-        ensures { result ≡ wrong self }
-    {
-        Spelled {
-            next: self,
-            given: Given::Fault,
-            name: Word::none(),
-        }
-    }
-
     // The stream ends, where nothing is open.
-    fn ends(self) -> Spelled
+    fn ends(self) -> Option<Spelled>
         ensures { result ≡ ended self }
     {
-        let levels = self.levels;
-        if levels.depth == 0 {
-            Spelled {
+        if self.levels.depth == 0 {
+            Some(Spelled {
                 next: Scribe {
-                    levels: levels,
+                    levels: self.levels,
                     ended: true,
                 },
-                given: Given::Nothing,
-                name: Word::none(),
-            }
+                tag: None,
+            })
         } else {
-            self.wrong()
+            None
         }
     }
 }
@@ -117,11 +87,10 @@ fn written(levels: Levels, form: Form, name: Word) -> Spelled
 {
     Spelled {
         next: Scribe {
-            levels: levels,
+            levels,
             ended: false,
         },
-        given: Given::Tag(form),
-        name: name,
+        tag: Some(Tag { form, name }),
     }
 }
 
@@ -129,59 +98,57 @@ fn written(levels: Levels, form: Form, name: Word) -> Spelled
 fn has_name(name: Word) -> bool
     ensures { result ≡ has_name name }
 {
-    (0 < name.length) & (name.length < 17)
+    0 < name.length && name.length < 17
 }
 
-fn open_event(names: &[u8], scribe: Scribe, label: u64) -> Spelled
+fn open_event(names: &[u8], scribe: Scribe, label: u64) -> Option<Spelled>
     ensures { result ≡ open_event names.now scribe label }
 {
     let levels = scribe.levels;
     let name = names::name_at(names, label);
-    if has_name(name) & (levels.depth < 40) {
-        written(levels.deeper((label % 256) as u8), Form::Opening, name)
+    if has_name(name) && levels.depth < 40 {
+        Some(written(levels.deeper((label % 256) as u8), Form::Opening, name))
     } else {
-        scribe.wrong()
+        None
     }
 }
 
-fn point_event(names: &[u8], scribe: Scribe, label: u64) -> Spelled
+fn point_event(names: &[u8], scribe: Scribe, label: u64) -> Option<Spelled>
     ensures { result ≡ point_event names.now scribe label }
 {
-    let levels = scribe.levels;
     let name = names::name_at(names, label);
     if has_name(name) {
-        written(levels, Form::Empty, name)
+        Some(written(scribe.levels, Form::Empty, name))
     } else {
-        scribe.wrong()
+        None
     }
 }
 
-fn close_event(names: &[u8], scribe: Scribe) -> Spelled
+fn close_event(names: &[u8], scribe: Scribe) -> Option<Spelled>
     ensures { result ≡ close_event names.now scribe }
 {
     let levels = scribe.levels;
-    let name = names::name_at(names, levels.newest() as u64);
+    let newest = levels.newest()?;
+    let name = names::name_at(names, u64::from(newest));
     if has_name(name) {
-        written(levels.shallower(), Form::Closing, name)
+        Some(written(levels.shallower(), Form::Closing, name))
     } else {
-        scribe.wrong()
+        None
     }
 }
 
 // A close that names a label: the newest's.
-fn close_of_event(names: &[u8], scribe: Scribe, label: u64) -> Spelled
+fn close_of_event(names: &[u8], scribe: Scribe, label: u64) -> Option<Spelled>
     ensures { result ≡ close_of_event names.now scribe label }
 {
-    let levels = scribe.levels;
-    if levels.newest() as u64 == label {
-        close_event(names, scribe)
-    } else {
-        scribe.wrong()
+    match scribe.levels.newest() {
+        Some(newest) if u64::from(newest) == label => close_event(names, scribe),
+        _ => None,
     }
 }
 
 // An event, where byte 65 was not read yet.
-fn event_step(names: &[u8], scribe: Scribe, event: Event) -> Spelled
+fn event_step(names: &[u8], scribe: Scribe, event: Event) -> Option<Spelled>
     ensures { result ≡ event_step names.now scribe event }
 {
     match event {
@@ -190,30 +157,18 @@ fn event_step(names: &[u8], scribe: Scribe, event: Event) -> Spelled
         Event::Close => close_event(names, scribe),
         Event::CloseOf(a) => close_of_event(names, scribe, a),
         Event::End => scribe.ends(),
-        Event::Unknown => scribe.wrong(),
+        Event::Unknown => None,
     }
 }
 
-// One event byte. The names are the first 32 lines of the list. After byte 65 nothing goes on.
-pub fn spell(names: &[u8], scribe: Scribe, byte: u8) -> Spelled
+// One event byte, if a whole stream goes on with it; after byte 65 nothing does. The names are the first 32 lines of the list.
+pub fn spell(names: &[u8], scribe: Scribe, byte: u8) -> Option<Spelled>
     ensures { result ≡ spell_step names.now scribe byte }
 {
     if scribe.ended {
-        scribe.wrong()
+        None
     } else {
         event_step(names, scribe, answers::event_of(byte))
-    }
-}
-
-// The length of a tag.
-fn tag_length(form: Form, name: Word) -> usize
-    requires { name.length ≤ 16 }
-    ensures { result ≡ tag_length form name }
-{
-    match form {
-        Form::Opening => 2 + name.length,
-        Form::Closing => 3 + name.length,
-        Form::Empty => 3 + name.length,
     }
 }
 
@@ -222,197 +177,170 @@ fn put(out: &mut [u8], at: usize, bytes: &[u8])
     requires { at + length bytes.now ≤ length out.old }
     ensures { out.new ≡ put_at at bytes.now out.old }
 {
-    let mut i: usize = 0;
-    while i < bytes.len() {
-        out[at + i] = bytes[i];
-        i += 1;
+    out[at..at + bytes.len()].copy_from_slice(bytes);
+}
+
+impl Form {
+    // What stands before the name.
+    fn head(self) -> &'static [u8]
+        ensures { result.now ≡ head_of self }
+    {
+        match self {
+            Form::Closing => b"</",
+            Form::Opening | Form::Empty => b"<",
+        }
+    }
+
+    // What stands after the name.
+    fn tail(self) -> &'static [u8]
+        ensures { result.now ≡ tail_of self }
+    {
+        match self {
+            Form::Empty => b"/>",
+            Form::Opening | Form::Closing => b">",
+        }
     }
 }
 
-// A name between what stands before and after it.
-fn put_parts(out: &mut [u8], at: usize, head: &[u8], name: Word, tail: &[u8])
-    requires writable { Writable name }
-    requires tail_in_bounds { at + (length head.now + (name.length + length tail.now)) ≤ length out.old }
-    ensures { out.new ≡ put_at at (head.now ++ (spelt name ++ tail.now)) out.old }
-{
-    let length = name.length;
-    let bytes = name.bytes;
-    put(out, at, head);
-    put(out, at + head.len(), &bytes[..length]);
-    put(out, at + head.len() + length, tail);
-}
+impl Tag {
+    fn length(self) -> usize
+        ensures { result ≡ length (tag_bytes self) }
+    {
+        self.form.head().len() + self.name.spelt().len() + self.form.tail().len()
+    }
 
-// A tag.
-fn put_tag(out: &mut [u8], at: usize, form: Form, name: Word)
-    requires writable { Writable name }
-    requires name_in_bounds { at + tag_length form name ≤ length out.old }
-    ensures { out.new ≡ put_at at (tag_bytes form name) out.old }
-{
-    match form {
-        Form::Opening => put_parts(out, at, b"<", name, b">"),
-        Form::Closing => put_parts(out, at, b"</", name, b">"),
-        Form::Empty => put_parts(out, at, b"<", name, b"/>"),
+    fn put(self, out: &mut [u8], at: usize)
+        requires { at + length (tag_bytes self) ≤ length out.old }
+        ensures { out.new ≡ put_at at (tag_bytes self) out.old }
+    {
+        let head = self.form.head();
+        let name = self.name.spelt();
+        put(out, at, head);
+        put(out, at + head.len(), name);
+        put(out, at + head.len() + name.len(), self.form.tail());
     }
 }
 
 impl Spelled {
-    fn faulty(self) -> bool
-        ensures { result ≡ is_fault self.given }
-    {
-        let given = self.given;
-        match given {
-            Given::Nothing => false,
-            Given::Tag(_) => false,
-            Given::Fault => true,
-        }
-    }
-
-    // How many bytes it gives.
+    // How many bytes the event gives.
     fn length(self) -> usize
-        requires { Writable self.name }
-        ensures { result ≡ length (gives_by self.given self.name) }
+        ensures { result ≡ length (gives_by self.tag) }
     {
-        let given = self.given;
-        let name = self.name;
-        match given {
-            Given::Nothing => 0,
-            Given::Tag(form) => tag_length(form, name),
-            Given::Fault => 0,
+        match self.tag {
+            Some(tag) => tag.length(),
+            None => 0,
+        }
+    }
+
+    fn put(self, out: &mut [u8], at: usize)
+        requires { at + length (gives_by self.tag) ≤ length out.old }
+        ensures { out.new ≡ put_at at (gives_by self.tag) out.old }
+    {
+        if let Some(tag) = self.tag {
+            tag.put(out, at);
         }
     }
 }
 
-// The bytes that an event gives.
-fn put_spelled(out: &mut [u8], at: usize, spelled: Spelled)
-    requires writable { Writable spelled.name }
-    requires name_in_bounds { at + length (gives_by spelled.given spelled.name) ≤ length out.old }
-    ensures { out.new ≡ put_at at (gives_by spelled.given spelled.name) out.old }
+impl Steps for Scribe {
+    ghost step = { scribe_step };
+
+    fn take(
+        self,
+        names: &[u8],
+        byte: u8,
+        room: usize,
+        out: &mut [u8],
+        at: usize,
+    ) -> Result<Taken<Scribe>, Fault> {
+        let spelled = spell(names, self, byte).ok_or(Fault::Byte)?;
+        let given = spelled.length();
+        if room < given {
+            return Err(Fault::Short);
+        }
+        if at <= out.len() && given <= out.len() - at {
+            spelled.put(out, at);
+        }
+        Ok(Taken {
+            next: spelled.next,
+            given,
+        })
+    }
+}
+
+// What so many bytes leave of the room, if they fit.
+fn less(left: Option<usize>, bytes: usize) -> Option<usize>
+    ensures { result ≡ less_by left bytes }
 {
-    let given = spelled.given;
-    let name = spelled.name;
-    match given {
-        Given::Nothing => {}
-        Given::Tag(form) => put_tag(out, at, form, name),
-        Given::Fault => {}
-    }
+    left?.checked_sub(bytes)
 }
 
-impl Space {
-    // After so many bytes more.
-    fn less(self, bytes: usize) -> Space
-        ensures { result ≡ less_by self bytes }
-    {
-        let left = self.left;
-        if left < bytes {
-            Space {
-                left: 0,
-                fits: false,
-            }
-        } else {
-            Space {
-                left: left - bytes,
-                fits: self.fits,
-            }
-        }
+// Where the room ends it goes on, since a stream that is not whole is told before one that does not fit.
+impl Steps for Follower {
+    ghost step = { follower_step };
+
+    fn take(
+        self,
+        names: &[u8],
+        byte: u8,
+        _room: usize,
+        _out: &mut [u8],
+        _at: usize,
+    ) -> Result<Taken<Follower>, Fault> {
+        let spelled = spell(names, self.scribe, byte).ok_or(Fault::Byte)?;
+        Ok(Taken {
+            next: Follower {
+                scribe: spelled.next,
+                left: less(self.left, spelled.length()),
+            },
+            given: 0,
+        })
     }
 }
 
 // The events, up to the first at fault, without writing their tags.
-fn follow(names: &[u8], scribe: Scribe, events: &[u8], room: usize) -> Followed
+fn follow(names: &[u8], scribe: Scribe, events: &[u8], room: usize) -> feeding::Fed<Follower>
     ensures { result ≡ follow_of room (follow_in names.now scribe events.now) }
 {
-    let mut next = scribe;
-    let mut space = Space {
-        left: room,
-        fits: true,
+    let follower = Follower {
+        scribe,
+        left: Some(room),
     };
-    let mut taken: usize = 0;
-    while taken < events.len() {
-        let spelled = spell(names, next, events[taken]);
-        if spelled.faulty() {
-            return Followed {
-                next: next,
-                taken: taken,
-                space: space,
-                stop: Stop::At(Fault::Byte),
-            };
-        }
-        space = space.less(spelled.length());
-        next = spelled.next;
-        taken += 1;
-    }
-    Followed {
-        next: next,
-        taken: taken,
-        space: space,
-        stop: Stop::Not,
-    }
+    feeding::feed(names, follower, events, 0, &mut [])
 }
 
-impl Followed {
-    // The events are a whole stream.
-    fn whole(self) -> bool
-        ensures { result ≡ goes_on self.stop && self.next.ended }
-    {
-        let stop = self.stop;
-        let next = self.next;
-        match stop {
-            Stop::Not => next.ended,
-            Stop::At(_) => false,
-        }
-    }
+// The events are a whole stream.
+fn whole(all: feeding::Fed<Follower>) -> bool
+    ensures { result ≡ goes_on all.stop && all.next.scribe.ended }
+{
+    all.stop.is_none() && all.next.scribe.ended
 }
 
 // The tags of a piece of a stream, from the output's front: up to the first event at fault, or without room for its tag.
 pub fn put_events(names: &[u8], scribe: Scribe, piece: &[u8], out: &mut [u8]) -> Wrote
-    ensures value { result ≡ wrote_of (write_in names.now scribe (length out.old) piece.now) }
+    ensures value { result ≡ fed_of (write_in names.now scribe (length out.old) piece.now) }
     ensures out_after { out.new ≡ written_out names.now scribe piece.now out.old }
 {
-    let mut next = scribe;
-    let mut taken: usize = 0;
-    let mut given: usize = 0;
-    let mut stop = Stop::Not;
-    while taken < piece.len() {
-        let spelled = spell(names, next, piece[taken]);
-        if spelled.faulty() {
-            stop = Stop::At(Fault::Byte);
-            break;
-        }
-        let length = spelled.length();
-        if out.len() - given < length {
-            stop = Stop::At(Fault::Short);
-            break;
-        }
-        put_spelled(out, given, spelled);
-        given += length;
-        next = spelled.next;
-        taken += 1;
-    }
-    Wrote {
-        next: next,
-        taken: taken,
-        given: given,
-        stop: stop,
-    }
+    feeding::feed(names, scribe, piece, out.len(), out)
 }
 
-// A whole stream as tagged text, from the output's front. All of it is judged first: a refusal writes nothing.
-pub fn write(names: &[u8], events: &[u8], out: &mut [u8]) -> Writing
+// A whole stream as tagged text, from the output's front. Answers how many bytes it has. All of it is judged first: a refusal
+// writes nothing.
+pub fn write(names: &[u8], events: &[u8], out: &mut [u8]) -> Result<usize, WriteError>
     ensures value { result ≡ write_answer names.now events.now (length out.old) }
     ensures out_after { out.new ≡ write_out names.now events.now out.old }
 {
     if !names::good(names) {
-        return Writing::Names;
+        return Err(WriteError::Names);
     }
     let scribe = Scribe::begin();
     let all = follow(names, scribe, events, out.len());
-    if !all.whole() {
-        return Writing::Refused(all.taken);
+    if !whole(all) {
+        return Err(WriteError::Stream(all.taken));
     }
-    let space = all.space;
-    if !space.fits {
-        return Writing::Short;
+    if all.next.left.is_none() {
+        return Err(WriteError::Short);
     }
     let wrote = put_events(names, scribe, events, out);
-    Writing::Taken(wrote.given)
+    Ok(wrote.given)
 }

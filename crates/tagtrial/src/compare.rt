@@ -1,6 +1,6 @@
 // Both sides on a text, and both on a stream.
 use crate::{feeding, putting, tally};
-use grammar::{Fault, Reading, Writing};
+use grammar::{Fault, ReadError, WriteError};
 use making::draw;
 use retell::Told;
 use slices::{minus, part, plus};
@@ -24,20 +24,20 @@ pub fn says(kind: usize, place: usize) -> Told {
     }
 }
 
-fn reading_told(answer: Reading) -> Told {
+fn reading_told(answer: Result<usize, ReadError>) -> Told {
     match answer {
-        Reading::Taken(events) => says(0, events),
-        Reading::Names => says(1, 0),
-        Reading::Refused(fault, place) => says(number_of(fault), place),
+        Ok(events) => says(0, events),
+        Err(ReadError::Names) => says(1, 0),
+        Err(ReadError::Text(fault, place)) => says(number_of(fault), place),
     }
 }
 
-fn writing_told(answer: Writing) -> Told {
+fn writing_told(answer: Result<usize, WriteError>) -> Told {
     match answer {
-        Writing::Taken(bytes) => says(0, bytes),
-        Writing::Names => says(1, 0),
-        Writing::Refused(place) => says(2, place),
-        Writing::Short => says(3, 0),
+        Ok(bytes) => says(0, bytes),
+        Err(WriteError::Names) => says(1, 0),
+        Err(WriteError::Stream(place)) => says(2, place),
+        Err(WriteError::Short) => says(3, 0),
     }
 }
 

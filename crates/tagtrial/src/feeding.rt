@@ -1,16 +1,16 @@
 // A text fed in pieces, against what must be said of the whole.
 use crate::{compare, tally};
-use grammar::Stop;
+use grammar::Fault;
 use making::{draw, is_one_in};
 use retell::Told;
 use slices::{minus, part, plus};
 use tags::reader::{Cursor, Fed};
 
 // The number of what has stopped a text or a stream, or 0.
-pub fn stop_number(stop: Stop) -> usize {
+pub fn stop_number(stop: Option<Fault>) -> usize {
     match stop {
-        Stop::Not => 0,
-        Stop::At(fault) => compare::number_of(fault),
+        None => 0,
+        Some(fault) => compare::number_of(fault),
     }
 }
 

@@ -7,7 +7,7 @@
 // so, with the place counted from 0. A write that fails ends the program; a read that fails counts as the input's end.
 #![tactic(auto)]
 
-use grammar::{Fault, Stop};
+use grammar::Fault;
 use tags::writer::Scribe;
 
 // One byte more than the longest good list of names has, so that a longer one is seen to be longer.
@@ -36,10 +36,10 @@ fn refuse(rt: &HostRuntime, fault: Fault, place: u64) {
 }
 
 // Answers whether the stream goes on at this place. Where it does not, says why.
-fn goes_on(rt: &HostRuntime, stop: Stop, place: u64) -> bool {
+fn goes_on(rt: &HostRuntime, stop: Option<Fault>, place: u64) -> bool {
     match stop {
-        Stop::Not => true,
-        Stop::At(fault) => {
+        None => true,
+        Some(fault) => {
             refuse(rt, fault, place);
             false
         }
