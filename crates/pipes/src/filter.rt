@@ -1,7 +1,8 @@
 // The loop of a program between two pipes: standard input is read, and what comes of it written to standard output.
 ghost use Rattle.std.specs.ControlFlow.{MatchControlFlow};
-ghost use Rattle.std.specs.Prelude.{⊤};
+ghost use Rattle.std.specs.Prelude.{◌≡◌, ⊤, []};
 ghost use Rattle.pipes.specs.Counts.{IsPrefixLen};
+ghost use Rattle.pipes.specs.Outputs.{waiting};
 
 use crate::{Output, later, read_some, refuse};
 use std::ops::ControlFlow;
@@ -33,7 +34,10 @@ fn follow(
     block: &[u8],
     out: &mut Output,
     before: u64,
-) -> ControlFlow<(), u64> {
+) -> ControlFlow<(), u64>
+    requires { waiting out.old ≡ [] }
+    ensures { waiting out.new ≡ [] }
+{
     let mut rest = block;
     let mut place = before;
     for _ in 0..block.len() {
@@ -58,7 +62,9 @@ fn follow(
 }
 
 // The end of the input, which lies so far on.
-fn finish(rt: &HostRuntime, filter: &mut impl Filter, out: &mut Output, place: u64) {
+fn finish(rt: &HostRuntime, filter: &mut impl Filter, out: &mut Output, place: u64)
+    ensures { waiting out.new ≡ [] }
+{
     let last = filter.end(out);
     if out.flush(rt).is_continue() {
         if let Err(words) = last {
@@ -74,7 +80,10 @@ fn follow_some(
     block: &mut [u8],
     out: &mut Output,
     before: u64,
-) -> ControlFlow<(), u64> {
+) -> ControlFlow<(), u64>
+    requires { waiting out.old ≡ [] }
+    ensures { waiting out.new ≡ [] }
+{
     let bytes = read_some(&mut rt.stdin(), block);
     if bytes == 0 {
         finish(rt, filter, out, before);
@@ -86,7 +95,9 @@ fn follow_some(
 // Runs a filter over standard input, which is read in blocks of the length of `block`. What waits in the output already, and
 // what comes of a step, is written out before more input is waited for. A write that fails ends the run; a read that fails
 // counts as the input's end. Nothing says that the input ends, and a proved loop has to: no run takes so many turns.
-pub fn run(rt: &HostRuntime, filter: &mut impl Filter, block: &mut [u8], out: &mut Output) {
+pub fn run(rt: &HostRuntime, filter: &mut impl Filter, block: &mut [u8], out: &mut Output)
+    ensures { waiting out.new ≡ [] }
+{
     if out.flush(rt).is_break() {
         return;
     }

@@ -25,10 +25,7 @@ pub fn read_some<R: Read>(from: &mut R, block: &mut [u8]) -> usize
     ensures within { IsPrefixLen result block.new }
     ensures bytes { Consumes (R.remaining from.old) (R.remaining from.new) (take result block.new) }
 {
-    match from.read(block) {
-        Ok(bytes) => bytes,
-        Err(_) => 0,
-    }
+    from.read(block).unwrap_or(0)
 }
 
 // Reads until there is no more room, or to the end, and answers how many bytes it put at the front.
@@ -47,25 +44,18 @@ pub fn read_full<R: Read>(from: &mut R, file: &mut [u8]) -> usize
     size
 }
 
-// Reads a file whose path is text.
-fn load_at(rt: &impl Files, path: &str, file: &mut [u8]) -> usize
-    ensures { IsPrefixLen result file.new }
-{
-    match fs::open(rt, path) {
-        Ok(mut from) => read_full(&mut from, file),
-        Err(_) => 0,
-    }
-}
-
 // Reads a file, as far as there is room, and answers how many bytes it put at the front. One that cannot be opened or read
 // counts as empty, and so does one whose path is no UTF-8, in which std takes paths.
 pub fn load(rt: &impl Files, path: &[u8], file: &mut [u8]) -> usize
     ensures { IsPrefixLen result file.new }
 {
-    match str::from_utf8(path) {
-        Ok(text) => load_at(rt, text, file),
-        Err(_) => 0,
-    }
+    let Ok(path) = str::from_utf8(path) else {
+        return 0;
+    };
+    let Ok(mut from) = fs::open(rt, path) else {
+        return 0;
+    };
+    read_full(&mut from, file)
 }
 
 // The place so many bytes on. It stops growing at its maximum.
