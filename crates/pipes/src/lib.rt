@@ -28,7 +28,8 @@ pub fn read_some<R: Read>(from: &mut R, block: &mut [u8]) -> usize
     from.read(block).unwrap_or(0)
 }
 
-// Reads until there is no more room, or to the end, and answers how many bytes it put at the front.
+// Reads until there is no more room, or to the end, and answers how many bytes it put at the front. A loop by hand, since
+// std's `read_to_end` fills a `Vec`, and the programs use no heap.
 pub fn read_full<R: Read>(from: &mut R, file: &mut [u8]) -> usize
     ensures within { IsPrefixLen result file.new }
     ensures bytes { Consumes (R.remaining from.old) (R.remaining from.new) (take result file.new) }

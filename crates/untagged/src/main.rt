@@ -66,6 +66,8 @@ impl Filter for Writer<'_> {
     }
 }
 
+// `tagged` has the same lines. A shared form is no plainer: it would be handed the filter, the test and the three memories, and
+// these are all the lines there are.
 fn main(rt: HostRuntime) {
     let mut file = [0u8; NAMES];
     let mut block = [0u8; BLOCK];
