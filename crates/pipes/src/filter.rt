@@ -26,6 +26,9 @@ pub trait Filter {
     fn end(&mut self, out: &mut Output) -> Result<(), &'static str>;
 }
 
+// The handle, the filter, the output and the place go together through the next functions, and are no struct: with the
+// output borrowed in one, that `run` leaves nothing waiting was tried and did not prove.
+
 // A block of the input, which lies so far on. What comes of each step is written out before the next. A step takes a byte
 // at least, so that there are no more steps than bytes.
 fn follow(

@@ -8,10 +8,6 @@
 // counts as the text's end.
 #![tactic(auto)]
 
-ghost use Rattle.std.specs.Prelude.{⊤};
-ghost use Rattle.std.specs.ControlFlow.{MatchControlFlow};
-ghost use Rattle.pipes.specs.Counts.{IsPrefixLen};
-
 use grammar::{Fault, Stop};
 use pipes::{BLOCK, End, Filter, Output};
 use std::ops::ControlFlow;

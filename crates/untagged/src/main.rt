@@ -7,10 +7,6 @@
 // so, with the place counted from 0. A write that fails ends the program; a read that fails counts as the input's end.
 #![tactic(auto)]
 
-ghost use Rattle.std.specs.Prelude.{⊤};
-ghost use Rattle.std.specs.ControlFlow.{MatchControlFlow};
-ghost use Rattle.pipes.specs.Counts.{IsPrefixLen};
-
 use grammar::{Fault, Stop};
 use pipes::{End, Filter, Output};
 use std::ops::ControlFlow;

@@ -6,10 +6,6 @@
 // input's end.
 #![tactic(auto)]
 
-ghost use Rattle.std.specs.Prelude.{⊤};
-ghost use Rattle.std.specs.ControlFlow.{MatchControlFlow};
-ghost use Rattle.pipes.specs.Counts.{IsPrefixLen};
-
 use engine::{Outcome, Record, Refusal};
 use pipes::{BLOCK, End, Filter, Output};
 use std::fmt::{self, Write};
