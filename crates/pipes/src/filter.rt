@@ -18,7 +18,8 @@ pub enum End {
 
 // What a program between two pipes makes of its input.
 pub trait Filter {
-    // Takes the bytes that come next, and answers how many of them: all, or as many as there is room for what comes of them.
+    // Takes the bytes that come next, and answers how many of them: all, or as many as there is room for what comes of them;
+    // where nothing waits, one at least.
     fn take(&mut self, bytes: &[u8], out: &mut Output) -> ControlFlow<End, usize>
         ensures { MatchControlFlow result (λ taken. IsPrefixLen taken bytes.now) (λ _. ⊤) };
 
@@ -29,8 +30,8 @@ pub trait Filter {
 // The handle, the filter, the output and the place go together through the next functions, and are no struct: with the
 // output borrowed in one, that `run` leaves nothing waiting was tried and did not prove.
 
-// A block of the input, which lies so far on. What comes of each step is written out before the next. A step takes a byte
-// at least, so that there are no more steps than bytes.
+// A block of the input, which lies so far on. What comes of each step is written out before the next, so that each takes a
+// byte at least, and there are no more steps than bytes.
 fn follow(
     rt: &HostRuntime,
     filter: &mut impl Filter,

@@ -59,7 +59,7 @@ fn put_refusal(out: &mut Output, why: Refusal, event: u64) {
     let _ = writeln!(out, "refused {}{} at {event}", why.number(), Place(why));
 }
 
-// How far the stream is followed: the record and the events taken.
+// A stream that is watched: how far it is followed, and the memory that is lent to each call.
 #[derive(Drop)]
 struct Watch<'a> {
     table: &'a [u8],
