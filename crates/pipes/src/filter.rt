@@ -4,7 +4,7 @@ ghost use Rattle.std.specs.Prelude.{◌≡◌, ⊤, []};
 ghost use Rattle.pipes.specs.Counts.{IsPrefixLen};
 ghost use Rattle.pipes.specs.Outputs.{waiting};
 
-use crate::{Output, later, read_some, refuse};
+use crate::{Output, later, read_some};
 use std::ops::ControlFlow;
 
 // Why a filter takes no more of its input.
@@ -25,6 +25,11 @@ pub trait Filter {
 
     // Takes the end of the input. Where that is a fault, answers the words of it.
     fn end(&mut self, out: &mut Output) -> Result<(), &'static str>;
+}
+
+// "refused: WORDS, at PLACE", in one write, so that the lines of another program on the same terminal do not fall into it.
+fn tell(rt: &impl Eprint, words: &str, place: u64) {
+    let _ = eprintln!(rt; "refused: {words}, at {place}");
 }
 
 // The handle, the filter, the output and the place go together through the next functions, and are no struct: with the
@@ -54,7 +59,7 @@ fn follow(
             }
             ControlFlow::Break(End::Whole) => return ControlFlow::Break(()),
             ControlFlow::Break(End::Fault(taken, words)) => {
-                refuse(rt, words, later(place, taken));
+                tell(rt, words, later(place, taken));
                 return ControlFlow::Break(());
             }
         }
@@ -72,7 +77,7 @@ fn finish(rt: &HostRuntime, filter: &mut impl Filter, out: &mut Output, place: u
     let last = filter.end(out);
     if out.flush(rt).is_continue() {
         if let Err(words) = last {
-            refuse(rt, words, place);
+            tell(rt, words, place);
         }
     }
 }

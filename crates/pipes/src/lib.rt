@@ -1,9 +1,9 @@
 // What the programs that stand in a pipe have in common: a file read whole, the loop from standard input to standard output
-// (`filter`), what waits to be written (`output`), the place in the input, and the line of a refusal on standard
-// error. No public function asks anything of its caller.
+// (`filter`), what waits to be written (`output`), the place in the input, and the line of a list of names that is not
+// good. No public function asks anything of its caller.
 #![tactic(auto)]
 
-ghost use Rattle.std.specs.Prelude.{◌≡◌, true, ◌+◌, ◌≤◌, min, take};
+ghost use Rattle.std.specs.Prelude.{◌≡◌, ◌+◌, ◌≤◌, min, take};
 ghost use Rattle.std.specs.Io.KnownBytes.{Consumes};
 ghost use Rattle.pipes.specs.Counts.{IsPrefixLen};
 
@@ -69,9 +69,4 @@ pub fn later(place: u64, bytes: usize) -> u64
 // The line of a list of names that is not good.
 pub fn refuse_names(rt: &impl Eprint) {
     let _ = eprintln!(rt; "refused: bad name list");
-}
-
-// "refused: KIND, at PLACE", in one write, so that the lines of another program on the same terminal do not fall into it.
-pub fn refuse(rt: &impl Eprint, kind: &str, place: u64) {
-    let _ = eprintln!(rt; "refused: {kind}, at {place}");
 }
