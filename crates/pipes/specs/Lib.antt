@@ -1,2 +1,3 @@
 -- What the contracts of `pipes` cite.
 pub mod Counts
+pub mod Outputs

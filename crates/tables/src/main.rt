@@ -4,222 +4,186 @@
 // which byte is set to what, and the answer: "taken n k", or "refused" with 01's number and, for 3 and 5, the place in two
 // numbers: the entry and its field (0 kind, 1 offset, 2 length), or the body and its byte. Then the same answer for the
 // table on standard input and, where it has three states or more, some of its sets: with 01's table W these are the
-// document's cases 1 to 6.
+// document's cases 1 to 6. A write that fails is let go.
 #![tactic(auto)]
 
-ghost use Rattle.std.specs.Prelude.{◌<◌, ◌≤◌};
+ghost use Rattle.std.specs.Prelude.{◌≤◌};
 ghost use Rattle.bodies.specs.Sound.{Sound};
 ghost use Rattle.meaning.specs.Table.{table_of};
 
+use std::fmt;
 use std::io::Print;
-use table::{Reading, Refusal};
+use table::Reading;
 
-// A try a line: n of the table, the bytes that are read, the byte that is set, and its value. (Byte 2 is 0 already.)
-const TRIES: [[u64; 4]; 41] = [
+// The tables that are tried.
+#[derive(Clone, Copy)]
+enum Sizes {
+    // n = 1 and k = 1.
+    Least,
+    // n = 64 and k = 32.
+    Largest,
+}
+
+impl Sizes {
+    fn states(self) -> u64 {
+        match self {
+            Sizes::Least => 1,
+            Sizes::Largest => 64,
+        }
+    }
+
+    // How many bytes the file has.
+    fn length(self) -> usize {
+        match self {
+            Sizes::Least => 34,
+            Sizes::Largest => 6333,
+        }
+    }
+
+    // The header and contents.
+    fn front(self) -> &'static [u8; 29] {
+        match self {
+            Sizes::Least =>
+                b"\x01\x01\x00\x05\x01\x1d\x00\x01\x00\x02\x1e\x00\x01\x00\x03\x1f\x00\x01\x00\x04\x20\x00\x01\x00\x05\x21\x00\x01\x00",
+            Sizes::Largest =>
+                b"\x40\x20\x00\x05\x01\x1d\x00\x20\x00\x02\x3d\x00\x00\x08\x03\x3d\x08\x40\x00\x04\x7d\x08\x00\x10\x05\x7d\x18\x40\x00",
+        }
+    }
+}
+
+// What is tried of a table.
+#[derive(Clone, Copy)]
+enum Try {
+    // So many of its bytes are read. (Byte 2 is 0.)
+    Length(Sizes, usize),
+    // This byte has that value.
+    Byte(Sizes, usize, u8),
+}
+
+const TRIES: [Try; 41] = [
     // The file's length.
-    [1, 0, 2, 0],
-    [1, 28, 2, 0],
-    [1, 29, 2, 0],
-    [1, 33, 2, 0],
-    [1, 34, 2, 0],
-    [1, 35, 2, 0],
-    [64, 6332, 2, 0],
-    [64, 6333, 2, 0],
-    [64, 6334, 2, 0],
+    Try::Length(Sizes::Least, 0),
+    Try::Length(Sizes::Least, 28),
+    Try::Length(Sizes::Least, 29),
+    Try::Length(Sizes::Least, 33),
+    Try::Length(Sizes::Least, 34),
+    Try::Length(Sizes::Least, 35),
+    Try::Length(Sizes::Largest, 6332),
+    Try::Length(Sizes::Largest, 6333),
+    Try::Length(Sizes::Largest, 6334),
     // The header.
-    [1, 34, 0, 0],
-    [64, 6333, 0, 65],
-    [1, 34, 1, 0],
-    [64, 6333, 1, 33],
-    [64, 6333, 2, 63],
-    [64, 6333, 2, 64],
-    [64, 6333, 3, 4],
-    [64, 6333, 3, 6],
+    Try::Byte(Sizes::Least, 0, 0),
+    Try::Byte(Sizes::Largest, 0, 65),
+    Try::Byte(Sizes::Least, 1, 0),
+    Try::Byte(Sizes::Largest, 1, 33),
+    Try::Byte(Sizes::Largest, 2, 63),
+    Try::Byte(Sizes::Largest, 2, 64),
+    Try::Byte(Sizes::Largest, 3, 4),
+    Try::Byte(Sizes::Largest, 3, 6),
     // Bytes of the first, the fourth and the last contents entry.
-    [64, 6333, 4, 2],
-    [64, 6333, 5, 30],
-    [64, 6333, 6, 1],
-    [64, 6333, 7, 33],
-    [64, 6333, 8, 1],
-    [64, 6333, 20, 126],
-    [64, 6333, 21, 9],
-    [64, 6333, 23, 15],
-    [64, 6333, 24, 4],
-    [64, 6333, 28, 1],
+    Try::Byte(Sizes::Largest, 4, 2),
+    Try::Byte(Sizes::Largest, 5, 30),
+    Try::Byte(Sizes::Largest, 6, 1),
+    Try::Byte(Sizes::Largest, 7, 33),
+    Try::Byte(Sizes::Largest, 8, 1),
+    Try::Byte(Sizes::Largest, 20, 126),
+    Try::Byte(Sizes::Largest, 21, 9),
+    Try::Byte(Sizes::Largest, 23, 15),
+    Try::Byte(Sizes::Largest, 24, 4),
+    Try::Byte(Sizes::Largest, 28, 1),
     // Contents for another n, or another k: the first place that is then wrong.
-    [64, 6333, 0, 63],
-    [64, 6333, 1, 31],
+    Try::Byte(Sizes::Largest, 0, 63),
+    Try::Byte(Sizes::Largest, 1, 31),
     // The first and the last byte of each body.
-    [64, 6333, 29, 64],
-    [64, 6333, 60, 64],
-    [64, 6333, 61, 64],
-    [64, 6333, 2108, 64],
-    [64, 6333, 2109, 64],
-    [64, 6333, 2172, 64],
-    [64, 6333, 2173, 64],
-    [64, 6333, 6268, 64],
-    [64, 6333, 6268, 63],
-    [64, 6333, 6269, 2],
-    [64, 6333, 6332, 2],
-    [64, 6333, 6332, 1],
+    Try::Byte(Sizes::Largest, 29, 64),
+    Try::Byte(Sizes::Largest, 60, 64),
+    Try::Byte(Sizes::Largest, 61, 64),
+    Try::Byte(Sizes::Largest, 2108, 64),
+    Try::Byte(Sizes::Largest, 2109, 64),
+    Try::Byte(Sizes::Largest, 2172, 64),
+    Try::Byte(Sizes::Largest, 2173, 64),
+    Try::Byte(Sizes::Largest, 6268, 64),
+    Try::Byte(Sizes::Largest, 6268, 63),
+    Try::Byte(Sizes::Largest, 6269, 2),
+    Try::Byte(Sizes::Largest, 6332, 2),
+    Try::Byte(Sizes::Largest, 6332, 1),
 ];
 
-fn say(rt: &impl Print, words: &str) {
-    let _ = print!(rt; "{words}");
-}
+// What `read` answers of a file.
+#[derive(Clone, Copy)]
+struct Answer(Reading);
 
-fn say_number(rt: &impl Print, words: &str, x: u64) {
-    let _ = print!(rt; "{words}{x}");
-}
-
-// Sets a byte of the file, where it has that byte.
-fn put(file: &mut [u8], at: u64, x: u64) {
-    if at < file.len() as u64 {
-        file[at as usize] = (x % 256) as u8;
+impl fmt::Display for Answer {
+    fn fmt<W: fmt::Write>(&self, f: &mut fmt::Formatter<W>) -> fmt::Result {
+        match self.0 {
+            Reading::Taken(n, k) => write!(f, "taken {n} {k}"),
+            Reading::Refused(why) if why.part() > 0 => {
+                write!(
+                    f,
+                    "refused {} place {} {}",
+                    why.number(),
+                    why.part(),
+                    why.inside()
+                )
+            }
+            Reading::Refused(why) => write!(f, "refused {}", why.number()),
+        }
     }
 }
 
-// Sets the first bytes of the file.
-fn put_front(file: &mut [u8], bytes: &[u8]) {
-    let mut i = 0;
-    while i < bytes.len() {
-        put(file, i as u64, bytes[i] as u64);
-        i += 1;
-    }
-}
-
-// The header and contents of a table with n = 1 and k = 1, or with n = 64 and k = 32.
-fn put_contents(file: &mut [u8], n: u64) {
-    if n == 1 {
-        put_front(
-            file,
-            b"\x01\x01\x00\x05\x01\x1d\x00\x01\x00\x02\x1e\x00\x01\x00\x03\x1f\x00\x01\x00\x04\x20\x00\x01\x00\x05\x21\x00\x01\x00",
-        );
-    } else {
-        put_front(
-            file,
-            b"\x40\x20\x00\x05\x01\x1d\x00\x20\x00\x02\x3d\x00\x00\x08\x03\x3d\x08\x40\x00\x04\x7d\x08\x00\x10\x05\x7d\x18\x40\x00",
-        );
-    }
-}
-
-fn say_taken(rt: &impl Print, n: u64, k: u64) {
-    say_number(rt, "taken ", n);
-    say_number(rt, " ", k);
-}
-
-fn say_refused(rt: &impl Print, why: Refusal) {
-    say_number(rt, "refused ", why.number());
-    if why.part() > 0 {
-        say_number(rt, " place ", why.part());
-        say_number(rt, " ", why.inside());
-    }
-}
-
-fn answer(rt: &impl Print, file: &[u8]) {
-    match table::read(file) {
-        Reading::Taken(n, k) => say_taken(rt, n, k),
-        Reading::Refused(why) => say_refused(rt, why),
-    }
-}
-
-fn answer_front(rt: &impl Print, file: &[u8], bytes: usize) {
-    if bytes <= file.len() {
-        answer(rt, &file[..bytes]);
-    }
-}
-
-fn say_try(rt: &impl Print, n: u64, bytes: u64, at: u64, x: u64) {
-    say_number(rt, "n ", n);
-    say_number(rt, ", ", bytes);
-    say_number(rt, " bytes, byte ", at);
-    say_number(rt, " = ", x);
-    say(rt, ": ");
-}
-
-fn try_table(rt: &impl Print, n: u64, bytes: u64, at: u64, x: u64) {
+fn try_table(rt: &impl Print, tried: Try) {
+    let (table, bytes, at, value) = match tried {
+        Try::Length(table, bytes) => (table, bytes, 2, 0),
+        Try::Byte(table, at, value) => (table, table.length(), at, value),
+    };
     let mut file = [0u8; 6334];
-    put_contents(&mut file, n);
-    put(&mut file, at, x);
-    say_try(rt, n, bytes, at, x);
-    answer_front(rt, &file, bytes as usize);
-    say(rt, "\n");
-}
-
-fn try_all(rt: &impl Print) {
-    let tries = TRIES;
-    let mut i = 0;
-    while i < 41 {
-        let row = tries[i];
-        try_table(rt, row[0], row[1], row[2], row[3]);
-        i += 1;
+    file[..29].copy_from_slice(table.front());
+    if let Some(byte) = file.get_mut(at) {
+        *byte = value;
     }
+    let answer = Answer(table::read(&file[..bytes.min(file.len())]));
+    let n = table.states();
+    let _ = println!(rt; "n {n}, {bytes} bytes, byte {at} = {value}: {answer}");
 }
 
-// T, acc(1), and the sets at the start.
-fn show_start(rt: &impl Print, table: &[u8], accs: &[u64; 64], trees: u64)
-    requires { Sound table.now }
-{
-    let n = table::states(table);
-    say_number(rt, "T ", trees);
-    say_number(rt, ", acc(1) ", accs[1]);
-    say_number(
-        rt,
-        ", at start ",
-        sets::safe(n, accs, sets::ends(table, true)),
-    );
-    say_number(rt, " and ", sets::safe(n, accs, sets::ends(table, false)));
-    say(rt, "\n");
-}
-
-fn say_down(rt: &impl Print, words: &str, table: &[u8], accs: &[u64; 64], q: u64, x: u64)
-    requires sound { Sound table.now }
-    requires q_bound { q < (table_of table.now).states }
-{
-    say_number(rt, words, sets::down(table, accs, q, x));
-}
-
-// down of the first three states, over W's sets at the start.
-fn show_downs(rt: &impl Print, table: &[u8], accs: &[u64; 64])
-    requires sound { Sound table.now }
-    requires bound { 3 ≤ (table_of table.now).states }
-{
-    say_down(rt, "down(0,4) ", table, accs, 0, 4);
-    say_down(rt, ", down(0,25) ", table, accs, 0, 25);
-    say_down(rt, ", down(1,25) ", table, accs, 1, 25);
-    say_down(rt, ", down(2,4) ", table, accs, 2, 4);
-    say(rt, "\n");
-}
-
+// T, acc(1), the sets at the start, and down of the first three states, over W's sets at the start.
 fn show(rt: &impl Print, table: &[u8])
     requires sound { Sound table.now }
     requires bound { 3 ≤ (table_of table.now).states }
 {
+    let n = table::states(table);
     let trees = sets::trees(table);
     let accs = sets::accs(table, trees);
-    show_start(rt, table, &accs, trees);
-    show_downs(rt, table, &accs);
+    let _ = println!(rt;
+        "T {trees}, acc(1) {}, at start {} and {}",
+        accs[1],
+        sets::safe(n, &accs, sets::ends(table, true)),
+        sets::safe(n, &accs, sets::ends(table, false))
+    );
+    let _ = println!(rt;
+        "down(0,4) {}, down(0,25) {}, down(1,25) {}, down(2,4) {}",
+        sets::down(table, &accs, 0, 4),
+        sets::down(table, &accs, 0, 25),
+        sets::down(table, &accs, 1, 25),
+        sets::down(table, &accs, 2, 4)
+    );
 }
 
-// The sets of a table with at least three states: what `read` answers is all that the steps ask for.
-fn show_file(rt: &impl Print, file: &[u8]) {
-    if let Reading::Taken(n, _) = table::read(file) {
+// What `read` answers of the file, and the sets of a table with three states or more.
+fn judge(rt: &impl Print, file: &[u8]) {
+    let answer = table::read(file);
+    let _ = println!(rt; "standard input: {}", Answer(answer));
+    if let Reading::Taken(n, _) = answer {
         if 3 <= n {
             show(rt, file);
         }
     }
 }
 
-// What `read` answers of the file, and its sets.
-fn judge(rt: &impl Print, file: &[u8]) {
-    say(rt, "standard input: ");
-    answer(rt, file);
-    say(rt, "\n");
-    show_file(rt, file);
-}
-
 fn main(rt: HostRuntime) {
-    try_all(&rt);
+    for tried in &TRIES {
+        try_table(&rt, *tried);
+    }
     let mut file = [0u8; 6334];
     let bytes = pipes::read_full(&mut rt.stdin(), &mut file);
     judge(&rt, &file[..bytes]);

@@ -1,5 +1,0 @@
--- `follow` ends: its turns are counted down.
-use Rattle.watch.proofs.follow.Given as goal
-
-abbrev pub decreases-loop-turns : goal.decreases-loop-turns
-decreases-loop-turns l = l.turns
