@@ -1,80 +1,97 @@
-// What was compared, in words of the desk: at 0 to 16 the refusals of each number (0: taken), of starts, events and damaged
-// calls together; then tables, starts, events, reports, what differed, damaged calls, and of starts and of damaged calls how
-// many were refused 3 or 5, whose places in the file were compared.
-use slices::{put_word, word};
-use std::io::Print;
+// What was compared.
+use crate::told::Told;
+use std::fmt;
 
-pub const TABLES: usize = 17;
+#[derive(Clone, Copy)]
+pub enum Call {
+    Start,
+    Event,
+    Damaged,
+}
 
-pub const STARTS: usize = 18;
+#[derive(Default, Drop)]
+pub struct Tally {
+    tables: u64,
+    starts: u64,
+    events: u64,
+    damaged: u64,
+    reports: u64,
+    taken: u64,
+    // How often each number was refused, 1 first.
+    refused: [u64; 16],
+    // How many starts, and how many other calls, were refused 3 or 5, whose places in the file were compared.
+    start_places: u64,
+    damaged_places: u64,
+    differed: u64,
+}
 
-pub const EVENTS: usize = 19;
+impl Tally {
+    pub fn add_table(&mut self) {
+        self.tables = self.tables.saturating_add(1);
+    }
 
-pub const REPORTS: usize = 20;
+    pub fn add_reports(&mut self, more: u64) {
+        self.reports = self.reports.saturating_add(more);
+    }
 
-// The seed stands between.
-pub const DIFFERED: usize = 22;
+    pub fn check(&mut self, alike: bool) {
+        if !alike {
+            self.differed = self.differed.saturating_add(1);
+        }
+    }
 
-pub const DAMAGED: usize = 23;
+    fn add_call(&mut self, call: Call) {
+        let count = match call {
+            Call::Start => &mut self.starts,
+            Call::Event => &mut self.events,
+            Call::Damaged => &mut self.damaged,
+        };
+        *count = count.saturating_add(1);
+    }
 
-const START_PLACES: usize = 24;
+    fn add_place(&mut self, call: Call) {
+        let count = match call {
+            Call::Start => &mut self.start_places,
+            Call::Event | Call::Damaged => &mut self.damaged_places,
+        };
+        *count = count.saturating_add(1);
+    }
 
-const DAMAGED_PLACES: usize = 25;
+    fn add_refusal(&mut self, call: Call, number: u64) {
+        if number == 3 || number == 5 {
+            self.add_place(call);
+        }
+        for (other, count) in (1..).zip(self.refused.iter_mut()) {
+            if other == number {
+                *count = count.saturating_add(1);
+            }
+        }
+    }
 
-pub fn add(desk: &mut [u64], at: usize, more: u64) {
-    let before = word(desk, at);
-    if before <= u64::MAX - more {
-        put_word(desk, at, before + more);
+    // One comparison more, what the watch answered, and how it went.
+    pub fn note<T>(&mut self, call: Call, said: &Result<T, Told>, alike: bool) {
+        self.add_call(call);
+        match said {
+            Ok(_) => self.taken = self.taken.saturating_add(1),
+            Err(told) => self.add_refusal(call, told.number),
+        }
+        self.check(alike);
     }
 }
 
-// Where the places of a kind are counted.
-fn places_of(kind: usize) -> usize {
-    if kind == STARTS {
-        START_PLACES
-    } else {
-        DAMAGED_PLACES
+impl fmt::Display for Tally {
+    fn fmt<W: fmt::Write>(&self, f: &mut fmt::Formatter<W>) -> fmt::Result {
+        writeln!(f, "tables {}", self.tables)?;
+        writeln!(f, "starts {}", self.starts)?;
+        writeln!(f, "events {}", self.events)?;
+        writeln!(f, "damaged calls {}", self.damaged)?;
+        writeln!(f, "reports {}", self.reports)?;
+        writeln!(f, "taken {}", self.taken)?;
+        for (number, count) in (1..).zip(self.refused.iter()) {
+            writeln!(f, "refused {number}: {count}")?;
+        }
+        writeln!(f, "places of starts {}", self.start_places)?;
+        writeln!(f, "places of damaged calls {}", self.damaged_places)?;
+        write!(f, "differed {}", self.differed)
     }
-}
-
-fn note_number(desk: &mut [u64], kind: usize, number: u64) {
-    let has_place = (number == 3) | (number == 5);
-    add(desk, places_of(kind), has_place as u64);
-    add(desk, (number % 17) as usize, 1);
-}
-
-// One comparison more of a kind, and how it went.
-pub fn note(desk: &mut [u64], kind: usize, number: u64, alike: bool) {
-    add(desk, kind, 1);
-    note_number(desk, kind, number);
-    add(desk, DIFFERED, !alike as u64);
-}
-
-fn say(rt: &impl Print, words: &str, x: u64) {
-    let _ = println!(rt; "{words}{x}");
-}
-
-fn say_refusal(rt: &impl Print, number: usize, x: u64) {
-    let _ = println!(rt; "refused {number}: {x}");
-}
-
-fn say_refusals(rt: &impl Print, desk: &[u64]) {
-    let mut i = 1;
-    while i < 17 {
-        say_refusal(rt, i, word(desk, i));
-        i += 1;
-    }
-}
-
-pub fn say_all(rt: &impl Print, desk: &[u64]) {
-    say(rt, "tables ", word(desk, TABLES));
-    say(rt, "starts ", word(desk, STARTS));
-    say(rt, "events ", word(desk, EVENTS));
-    say(rt, "damaged calls ", word(desk, DAMAGED));
-    say(rt, "reports ", word(desk, REPORTS));
-    say(rt, "taken ", word(desk, 0));
-    say_refusals(rt, desk);
-    say(rt, "places of starts ", word(desk, START_PLACES));
-    say(rt, "places of damaged calls ", word(desk, DAMAGED_PLACES));
-    say(rt, "differed ", word(desk, DIFFERED));
 }
