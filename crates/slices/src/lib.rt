@@ -14,6 +14,11 @@ pub fn put<T: Copy>(s: &mut [T], at: usize, x: T) {
     }
 }
 
+// One more is counted.
+pub fn add_one(count: &mut u64) {
+    *count = count.saturating_add(1);
+}
+
 // The last byte of a number.
 pub fn low_byte(x: usize) -> u8 {
     (x % 256) as u8

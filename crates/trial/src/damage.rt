@@ -224,7 +224,7 @@ fn call(
         Ok(_) => levels_in(work, record.allowed) == next,
         Err(_) => claim_of(answer.next) == claim && reports_are(reports, &[]),
     };
-    desk.tally.note(tally::Call::Damaged, &said, named && kept);
+    desk.tally.note(tally::Call::Damaged, said, named && kept);
     said.is_ok()
 }
 
@@ -285,7 +285,7 @@ pub fn start(file: &[u8], rows: u64, depth: u64, work: &mut [u64], desk: &mut De
     };
     let is_first = claim_of(answer.next) == begun;
     desk.tally
-        .note(tally::Call::Start, &said, named && left && is_first);
+        .note(tally::Call::Start, said, named && left && is_first);
     answer.next
 }
 

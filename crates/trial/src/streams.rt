@@ -5,7 +5,7 @@ use crate::{Desk, damage, tally};
 use engine::Record;
 use making::Dice;
 use second::Evaluator;
-use slices::{front, low_byte, part};
+use slices::{add_one, front, low_byte, part};
 
 // How a stream goes.
 #[derive(Clone, Copy)]
@@ -152,8 +152,8 @@ fn follow_byte(
     let next = claim_of(answer.next) == claim;
     let labelled = levels_in(work, claim.allowed) == evaluator.levels();
     let alike = said == due && kept && reported && next && labelled;
-    desk.tally.note(tally::Call::Event, &said, alike);
-    desk.tally.add_reports(count);
+    desk.tally.note(tally::Call::Event, said, alike);
+    desk.tally.reports = desk.tally.reports.saturating_add(count);
     answer.next
 }
 
@@ -212,7 +212,7 @@ fn try_stream(file: &mut [u8], evaluator: &mut Evaluator, desk: &mut Desk) {
 // Some streams over a table.
 fn try_table(file: &mut [u8], streams: usize, desk: &mut Desk) {
     let mut evaluator = Evaluator::of(file);
-    desk.tally.add_table();
+    add_one(&mut desk.tally.tables);
     for _ in 0..streams {
         try_stream(file, &mut evaluator, desk);
     }

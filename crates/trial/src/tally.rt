@@ -1,5 +1,6 @@
 // What was compared.
 use crate::told::Told;
+use slices::add_one;
 use std::fmt;
 
 #[derive(Clone, Copy)]
@@ -11,11 +12,11 @@ pub enum Call {
 
 #[derive(Default, Drop)]
 pub struct Tally {
-    tables: u64,
+    pub tables: u64,
     starts: u64,
     events: u64,
     damaged: u64,
-    reports: u64,
+    pub reports: u64,
     taken: u64,
     // How often each number was refused, 1 first.
     refused: [u64; 16],
@@ -26,53 +27,35 @@ pub struct Tally {
 }
 
 impl Tally {
-    pub fn add_table(&mut self) {
-        self.tables = self.tables.saturating_add(1);
-    }
-
-    pub fn add_reports(&mut self, more: u64) {
-        self.reports = self.reports.saturating_add(more);
-    }
-
     pub fn check(&mut self, alike: bool) {
         if !alike {
-            self.differed = self.differed.saturating_add(1);
+            add_one(&mut self.differed);
         }
-    }
-
-    fn add_call(&mut self, call: Call) {
-        let count = match call {
-            Call::Start => &mut self.starts,
-            Call::Event => &mut self.events,
-            Call::Damaged => &mut self.damaged,
-        };
-        *count = count.saturating_add(1);
-    }
-
-    fn add_place(&mut self, call: Call) {
-        let count = match call {
-            Call::Start => &mut self.start_places,
-            Call::Event | Call::Damaged => &mut self.damaged_places,
-        };
-        *count = count.saturating_add(1);
     }
 
     fn add_refusal(&mut self, call: Call, number: u64) {
         if number == 3 || number == 5 {
-            self.add_place(call);
+            match call {
+                Call::Start => add_one(&mut self.start_places),
+                Call::Event | Call::Damaged => add_one(&mut self.damaged_places),
+            }
         }
         for (other, count) in (1..).zip(self.refused.iter_mut()) {
             if other == number {
-                *count = count.saturating_add(1);
+                add_one(count);
             }
         }
     }
 
     // One comparison more, what the watch answered, and how it went.
-    pub fn note<T>(&mut self, call: Call, said: &Result<T, Told>, alike: bool) {
-        self.add_call(call);
+    pub fn note(&mut self, call: Call, said: Result<u64, Told>, alike: bool) {
+        match call {
+            Call::Start => add_one(&mut self.starts),
+            Call::Event => add_one(&mut self.events),
+            Call::Damaged => add_one(&mut self.damaged),
+        }
         match said {
-            Ok(_) => self.taken = self.taken.saturating_add(1),
+            Ok(_) => add_one(&mut self.taken),
             Err(told) => self.add_refusal(call, told.number),
         }
         self.check(alike);
