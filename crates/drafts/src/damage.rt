@@ -14,33 +14,33 @@ fn draw_byte(dice: &mut Dice, signs: &[u8], there: u8) -> u8 {
 // The byte comes in so many times at a place.
 fn put_in(draft: &mut Output, at: usize, count: usize, byte: u8) {
     for from in (at..draft.length).rev() {
-        let moved = get(draft.bytes, from);
-        put(draft.bytes, from.saturating_add(count), moved);
+        let moved = get(draft.room, from);
+        put(draft.room, from.saturating_add(count), moved);
     }
-    front(back(draft.bytes, at), count).fill(byte);
+    front(back(draft.room, at), count).fill(byte);
     draft.length = draft.length.saturating_add(count);
 }
 
 fn take_out(draft: &mut Output, at: usize) {
     for to in at..draft.length {
-        let moved = get(draft.bytes, to.saturating_add(1));
-        put(draft.bytes, to, moved);
+        let moved = get(draft.room, to.saturating_add(1));
+        put(draft.room, to, moved);
     }
     draft.length = draft.length.saturating_sub(1);
 }
 
 // Two bytes change places.
 fn exchange(draft: &mut Output, at: usize, other: usize) {
-    let byte = get(draft.bytes, at);
-    let moved = get(draft.bytes, other);
-    put(draft.bytes, at, moved);
-    put(draft.bytes, other, byte);
+    let byte = get(draft.room, at);
+    let moved = get(draft.room, other);
+    put(draft.room, at, moved);
+    put(draft.room, other, byte);
 }
 
 // One damage; the signs are bytes that mean something there.
 fn harm(draft: &mut Output, dice: &mut Dice, signs: &[u8]) {
     let at = dice.draw(draft.length);
-    let byte = draw_byte(dice, signs, get(draft.bytes, at));
+    let byte = draw_byte(dice, signs, get(draft.room, at));
     let other = dice.draw(draft.length);
     match dice.draw(7) {
         0 => take_out(draft, at),
@@ -48,7 +48,7 @@ fn harm(draft: &mut Output, dice: &mut Dice, signs: &[u8]) {
         2 => put_in(draft, at, 1, byte),
         3 => put_in(draft, at, (other % 17).saturating_add(1), byte),
         4 => draft.length = at,
-        _ => put(draft.bytes, at, byte),
+        _ => put(draft.room, at, byte),
     }
 }
 

@@ -1,10 +1,8 @@
 // Draws streams of events, with labelled closes and others; now and then a label is wrong.
 use crate::damage;
 use making::Dice;
+use retell::Event;
 use slices::{Output, low_byte};
-
-// The close without a label.
-const CLOSE: u8 = 64;
 
 // How many events, how deep at most, and how many of a hundred events open an element where one may: a deep stream has about
 // as many open as there may be. With it how many of a hundred closes are labelled, and how many labels have a name.
@@ -34,15 +32,15 @@ impl Plan {
     }
 
     // An event where so many elements are open. A close has no label yet.
-    fn draw_event(self, dice: &mut Dice, depth: usize) -> u8 {
+    fn draw_event(self, dice: &mut Dice, depth: usize) -> Event {
         let x = dice.draw(100);
         let label = low_byte(dice.draw(self.labels));
         if x < self.opens && depth < self.limit {
-            label
+            Event::Open(label)
         } else if x < 70 || depth == 0 {
-            label.saturating_add(32)
+            Event::Point(label)
         } else {
-            CLOSE
+            Event::Close(None)
         }
     }
 
@@ -57,25 +55,28 @@ impl Plan {
 
     // A close, which may get a label.
     fn push_close(self, events: &mut Output, dice: &mut Dice) {
-        if self.labelled <= dice.draw(100) {
-            events.push(CLOSE);
-        } else {
+        let mut label = None;
+        if dice.draw(100) < self.labelled {
             let open = retell::open_label(events.written()).unwrap_or(0);
-            events.push(retell::labelled(self.draw_label(dice, open)));
+            label = Some(self.draw_label(dice, open));
         }
+        events.push(u8::from(Event::Close(label)));
     }
 
     // Events one after the other. Answers how many elements are open then.
     fn push_events(self, events: &mut Output, dice: &mut Dice) -> usize {
         let mut depth = 0usize;
         for _ in 0..self.events {
-            let event = self.draw_event(dice, depth);
-            if event == CLOSE {
-                self.push_close(events, dice);
-                depth = depth.saturating_sub(1);
-            } else {
-                events.push(event);
-                depth = depth.saturating_add(usize::from(event < 32));
+            match self.draw_event(dice, depth) {
+                Event::Close(_) => {
+                    self.push_close(events, dice);
+                    depth = depth.saturating_sub(1);
+                }
+                Event::Open(label) => {
+                    events.push(u8::from(Event::Open(label)));
+                    depth = depth.saturating_add(1);
+                }
+                other => events.push(u8::from(other)),
             }
         }
         depth
@@ -106,7 +107,7 @@ pub fn make(events: &mut Output, dice: &mut Dice, labels: usize) {
     for _ in 0..plan.push_events(events, dice) {
         plan.push_close(events, dice);
     }
-    events.push(65);
+    events.push(u8::from(Event::End));
 }
 
 // Damages one of so many streams.

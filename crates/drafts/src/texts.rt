@@ -1,6 +1,7 @@
 // Makes texts of streams: their tags, with blanks between them and now and then another name, and then a damage.
 use crate::damage;
 use making::Dice;
+use retell::Event;
 use slices::{Output, get, low_byte, put};
 
 // A blank, now and then.
@@ -22,18 +23,18 @@ fn draw_label(events: &[u8], at: usize, dice: &mut Dice, labels: usize) -> u8 {
 fn misspell(text: &mut Output, dice: &mut Dice) {
     if dice.is_one_in(200) {
         let at = text.length.saturating_sub(2);
-        put(text.bytes, at, b'z');
+        put(text.room, at, b'z');
     }
 }
 
 // Makes the text of a stream.
 pub fn make(names: &[u8], events: &[u8], text: &mut Output, dice: &mut Dice) {
     let labels = retell::lines(names);
-    for (at, event) in events.iter().enumerate() {
+    for (at, byte) in events.iter().enumerate() {
         push_blank(text, dice);
         push_blank(text, dice);
         let label = draw_label(events, at, dice, labels);
-        retell::spell(names, *event, label, text);
+        retell::spell(names, Event::from(*byte), label, text);
         misspell(text, dice);
     }
 }

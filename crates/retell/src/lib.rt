@@ -7,6 +7,7 @@
 // Nothing is assumed of a caller. What is out of reach reads as 0, and is not written.
 #![tactic(auto)]
 
+mod event;
 mod names;
 mod reading;
 mod refusal;
@@ -14,9 +15,8 @@ mod seeking;
 mod text;
 mod writing;
 
+pub use event::Event;
 pub use names::{is_good, lines};
 pub use reading::{read, tell};
 pub use refusal::{Fault, Refusal};
-pub use writing::{
-    is_labelled, label_at, label_closes, labelled, open_label, spell, write, write_on,
-};
+pub use writing::{label_at, label_closes, open_label, spell, write, write_on};

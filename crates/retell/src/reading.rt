@@ -1,10 +1,10 @@
 // The reader: each place of the text is judged by itself, and only then are the events written.
+use crate::event::Event;
 use crate::names::{is_good, label_of};
 use crate::refusal::{Fault, Refusal, fault_if};
 use crate::text::{
     Form, depth, form_at, is_blank, is_letter, is_name_byte, open_tag, tag_end, tag_of, tags_before,
 };
-use crate::writing::labelled;
 use slices::{Output, get, part};
 
 // The name of a tag, which ends with a ">" at a place.
@@ -95,17 +95,17 @@ impl Reading<'_> {
     }
 }
 
-// The event of the tag that ends at a place, if one does; that of a closing tag is a labelled close.
-fn event_at(names: &[u8], text: &[u8], end: usize) -> Option<u8> {
+// The event of the tag that ends at a place, if one does; a closing tag names its label.
+fn event_at(names: &[u8], text: &[u8], end: usize) -> Option<Event> {
     if get(text, end) != b'>' {
         return None;
     }
     let tag = tag_of(text, end)?;
     let label = label_of(names, name_in(text, tag, end))?;
     match form_at(text, tag)? {
-        Form::Opening => Some(label),
-        Form::Empty => Some(label.saturating_add(32)),
-        Form::Closing => Some(labelled(label)),
+        Form::Opening => Some(Event::Open(label)),
+        Form::Empty => Some(Event::Point(label)),
+        Form::Closing => Some(Event::Close(Some(label))),
     }
 }
 
@@ -113,7 +113,7 @@ fn event_at(names: &[u8], text: &[u8], end: usize) -> Option<u8> {
 pub fn tell(names: &[u8], text: &[u8], place: usize, events: &mut Output) {
     for at in 0..place {
         if let Some(event) = event_at(names, text, at) {
-            events.push(event);
+            events.push(u8::from(event));
         }
     }
 }
@@ -127,6 +127,6 @@ pub fn read(names: &[u8], text: &[u8], out: &mut [u8]) -> Result<usize, Refusal>
     Reading { names, text, room }.judge()?;
     let mut events = Output::new(out);
     tell(names, text, text.len(), &mut events);
-    events.push(65);
+    events.push(u8::from(Event::End));
     Ok(events.length)
 }

@@ -1,45 +1,24 @@
 // The writer: each place of the stream is judged by itself, the tags are laid out once without memory to see how many have room,
 // and then once more.
+use crate::event::Event;
 use crate::names::{is_good, lines, name_of};
 use crate::refusal::{Fault, Refusal};
 use slices::{Output, get, part};
 
-const CLOSE: u8 = 64;
-
-const END: u8 = 65;
-
-// The labelled close of label 0; those of the labels up to 31 follow it.
-const LABELLED: u8 = 66;
-
-// The close that names a label.
-pub fn labelled(label: u8) -> u8 {
-    label.saturating_add(LABELLED)
-}
-
-pub fn is_labelled(event: u8) -> bool {
-    (LABELLED..=97).contains(&event)
-}
-
-fn is_close(event: u8) -> bool {
-    event == CLOSE || is_labelled(event)
-}
-
 // Where so many elements are open before an event: how many are after it.
-fn open_after(event: u8, open: usize) -> usize {
-    if event < 32 {
-        open.saturating_add(1)
-    } else if is_close(event) {
-        open.saturating_sub(1)
-    } else {
-        open
+fn open_after(byte: u8, open: usize) -> usize {
+    match Event::from(byte) {
+        Event::Open(_) => open.saturating_add(1),
+        Event::Close(_) => open.saturating_sub(1),
+        _ => open,
     }
 }
 
 // How many elements are open after some events.
 fn depth(events: &[u8]) -> usize {
     let mut open = 0;
-    for event in events {
-        open = open_after(*event, open);
+    for byte in events {
+        open = open_after(*byte, open);
     }
     open
 }
@@ -49,10 +28,10 @@ pub fn open_label(events: &[u8]) -> Option<u8> {
     let level = depth(events);
     let mut label = None;
     let mut open = 0;
-    for event in events {
-        let after = open_after(*event, open);
+    for byte in events {
+        let after = open_after(*byte, open);
         if after == level && open < after {
-            label = Some(*event);
+            label = Some(*byte);
         }
         open = after;
     }
@@ -66,63 +45,64 @@ fn before(events: &[u8], at: usize) -> &[u8] {
 
 // The label of the tag that an event is written as: its own, and of a close without one that of the open element.
 pub fn label_at(events: &[u8], at: usize) -> u8 {
-    let event = get(events, at);
-    if event < CLOSE {
-        event % 32
-    } else if is_labelled(event) {
-        event.saturating_sub(LABELLED)
-    } else {
-        open_label(before(events, at)).unwrap_or(0)
+    match Event::from(get(events, at)) {
+        Event::Open(label) | Event::Point(label) | Event::Close(Some(label)) => label,
+        _ => open_label(before(events, at)).unwrap_or(0),
     }
 }
 
-// A close stands at a place where nothing is open, or with another label than the open element's.
-fn closes_wrong(events: &[u8], at: usize) -> bool {
-    let open = open_label(before(events, at));
-    is_close(get(events, at)) && open != Some(label_at(events, at))
+fn has_ended(events: &[u8]) -> bool {
+    events.ends_with(&[u8::from(Event::End)])
 }
 
-// No whole stream goes on with the event at a place.
+// A stream cannot go on with the event at a place. A close needs an open element, of the label that it names.
 fn is_stuck(names: &[u8], events: &[u8], at: usize) -> bool {
-    let event = get(events, at);
-    let open = depth(before(events, at));
-    let unknown = END < event && !is_labelled(event);
-    let nameless = event < CLOSE && lines(names) <= usize::from(event % 32);
-    let deep = event < 32 && 40 <= open;
-    let early = event == END && open != 0;
-    let late = before(events, at).ends_with(&[END]);
-    late || unknown || nameless || deep || early || closes_wrong(events, at)
+    let behind = before(events, at);
+    let wrong = match Event::from(get(events, at)) {
+        Event::Open(label) => lines(names) <= usize::from(label) || 40 <= depth(behind),
+        Event::Point(label) => lines(names) <= usize::from(label),
+        Event::Close(_) => open_label(behind) != Some(label_at(events, at)),
+        Event::End => depth(behind) != 0,
+        Event::Unknown(_) => true,
+    };
+    wrong || has_ended(behind)
 }
 
 // The first place at which a stream cannot go on, or its end, where it has not ended.
 fn first_stuck(names: &[u8], events: &[u8]) -> Option<usize> {
     let stuck = (0..events.len()).find(|at| is_stuck(names, events, *at));
-    if stuck.is_none() && !events.ends_with(&[END]) {
+    if stuck.is_none() && !has_ended(events) {
         return Some(events.len());
     }
     stuck
 }
 
 // The tag of an event, with the name of a label; an end and a byte of no meaning have none.
-pub fn spell(names: &[u8], event: u8, label: u8, text: &mut Output) {
-    if END <= event && !is_labelled(event) {
+pub fn spell(names: &[u8], event: Event, label: u8, text: &mut Output) {
+    if matches!(event, Event::End | Event::Unknown(_)) {
         return;
     }
     text.push(b'<');
-    if is_close(event) {
+    if matches!(event, Event::Close(_)) {
         text.push(b'/');
     }
     text.extend(name_of(names, label));
-    if (32..CLOSE).contains(&event) {
+    if matches!(event, Event::Point(_)) {
         text.push(b'/');
     }
     text.push(b'>');
 }
 
+// The tag of the event at a place.
+fn spell_at(names: &[u8], events: &[u8], at: usize, text: &mut Output) {
+    let event = Event::from(get(events, at));
+    spell(names, event, label_at(events, at), text);
+}
+
 // The tags of all events.
 fn spell_all(names: &[u8], events: &[u8], text: &mut Output) {
-    for (at, event) in events.iter().enumerate() {
-        spell(names, *event, label_at(events, at), text);
+    for at in 0..events.len() {
+        spell_at(names, events, at, text);
     }
 }
 
@@ -130,8 +110,8 @@ fn spell_all(names: &[u8], events: &[u8], text: &mut Output) {
 fn fitting(names: &[u8], events: &[u8], room: usize) -> usize {
     let mut nowhere = [0; 1];
     let mut text = Output::new(&mut nowhere);
-    for (at, event) in events.iter().enumerate() {
-        spell(names, *event, label_at(events, at), &mut text);
+    for at in 0..events.len() {
+        spell_at(names, events, at, &mut text);
         if room < text.length {
             return at;
         }
@@ -172,11 +152,10 @@ pub fn write_on(names: &[u8], events: &[u8], out: &mut [u8]) -> Result<usize, Re
 
 // A whole stream with each close labelled, as it is read back from its tags.
 pub fn label_closes(events: &[u8], out: &mut Output) {
-    for (at, event) in events.iter().enumerate() {
-        if *event == CLOSE {
-            out.push(labelled(label_at(events, at)));
-        } else {
-            out.push(*event);
+    for (at, byte) in events.iter().enumerate() {
+        match Event::from(*byte) {
+            Event::Close(_) => out.push(u8::from(Event::Close(Some(label_at(events, at))))),
+            _ => out.push(*byte),
         }
     }
 }

@@ -7,7 +7,7 @@ use crate::order::Claim;
 use crate::reach::{Reach, States};
 use crate::refusal::{Refusal, refuse_if};
 use crate::run::Run;
-use slices::{get, put};
+use slices::{Output, get, low_byte, put};
 
 // What all completions say of a position.
 #[derive(Clone, Copy, PartialEq, Eq)]
@@ -133,10 +133,10 @@ impl Evaluator {
         get(&self.levels(), depth.saturating_sub(1))
     }
 
-    // The byte that closes the newest level and names its label; where nothing is open, one that names label 0.
-    pub fn closing(&self) -> usize {
+    // What closes the newest level and names its label; where nothing is open, label 0.
+    pub fn closing(&self) -> Event {
         let label = self.newest_level().saturating_sub(1);
-        (label as usize).saturating_add(66)
+        Event::CloseOf(low_byte(label as usize))
     }
 
     // Where the level under a closing one can be at its own end: it waits in q, and the closing one ends in the set.
@@ -204,23 +204,20 @@ impl Evaluator {
         next
     }
 
-    // The verdicts that stand now; each that is new has to be reported. Answers the number of reports.
-    fn settle(&mut self, next: &[Verdict], must: &mut [u32]) -> usize {
-        let mut count = 0usize;
+    // The verdicts that stand now; each that is new has to be reported.
+    fn settle(&mut self, next: &[Verdict], reports: &mut Output<u32>) {
         let mut position = self.before;
         for (verdict, new) in self.verdicts.iter_mut().zip(next) {
             position = position.saturating_add(1);
             if *verdict != *new {
                 *verdict = *new;
-                put(must, count, report(position, *new));
-                count = count.saturating_add(1);
+                reports.push(report(position, *new));
             }
         }
-        count
     }
 
-    // One event byte: the refusal that falls, 8 to 16, or the number of reports that must come, which stand in `must`.
-    pub fn follow(&mut self, must: &mut [u32], byte: u8) -> Result<u64, Refusal> {
+    // One event byte: the refusal that falls, 8 to 16, or the reports that must come.
+    pub fn follow(&mut self, byte: u8, reports: &mut Output<u32>) -> Result<(), Refusal> {
         let event = Event::from(byte);
         let claim = self.seen.claim;
         claim.byte_refusal(self.labels, self.newest_level(), event)?;
@@ -232,6 +229,7 @@ impl Evaluator {
         refuse_if(claim.rows < alive, Refusal::Rows)?;
         read.claim.alive = alive;
         self.seen = read;
-        Ok(self.settle(&next, must) as u64)
+        self.settle(&next, reports);
+        Ok(())
     }
 }

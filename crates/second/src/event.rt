@@ -9,7 +9,7 @@ pub enum Event {
     Close,
     CloseOf(u8),
     End,
-    Unknown,
+    Unknown(u8),
 }
 
 impl From<u8> for Event {
@@ -20,7 +20,20 @@ impl From<u8> for Event {
             64 => Event::Close,
             65 => Event::End,
             66..=97 => Event::CloseOf(byte - 66),
-            _ => Event::Unknown,
+            _ => Event::Unknown(byte),
+        }
+    }
+}
+
+impl From<Event> for u8 {
+    fn from(event: Event) -> u8 {
+        match event {
+            Event::Open(label) => label,
+            Event::Point(label) => label.wrapping_add(32),
+            Event::Close => 64,
+            Event::End => 65,
+            Event::CloseOf(label) => label.wrapping_add(66),
+            Event::Unknown(byte) => byte,
         }
     }
 }
@@ -35,6 +48,10 @@ impl Event {
 
     pub fn is_open(self) -> bool {
         matches!(self, Event::Open(_))
+    }
+
+    pub fn is_unknown(self) -> bool {
+        matches!(self, Event::Unknown(_))
     }
 
     pub fn is_position(self) -> bool {

@@ -19,6 +19,6 @@ mod refusal;
 mod run;
 
 pub use evaluator::Evaluator;
-pub use event::step_levels;
+pub use event::{Event, step_levels};
 pub use order::{Call, Claim, start_refusal};
 pub use refusal::Refusal;

@@ -63,7 +63,7 @@ impl Claim {
         let wrong = named.is_some_and(|label| newest != u64::from(label) + 1);
         let is_full = LAST_POSITION <= self.positions;
         refuse_if(self.finished, Refusal::Finished)?;
-        refuse_if(event == Event::Unknown, Refusal::Unknown)?;
+        refuse_if(event.is_unknown(), Refusal::Unknown)?;
         refuse_if(strange, Refusal::Label)?;
         refuse_if(event.is_close() && self.depth == 0, Refusal::NothingOpen)?;
         refuse_if(wrong, Refusal::ClosingLabel)?;

@@ -1,4 +1,4 @@
-// Slices read and written where they reach, and bytes written one after the other: what the second evaluators and the trials are
+// Slices read and written where they reach, also one element after the other: what the second evaluators and the trials are
 // written with, so that they are safe on any input. Nothing is assumed of a caller.
 #![tactic(auto)]
 
@@ -50,32 +50,32 @@ pub fn back<T>(s: &mut [T], from: usize) -> &mut [T] {
     &mut s[start..]
 }
 
-// Bytes that are written one after the other, from the front of a slice on. Those for which it has no room are counted, and not
-// written.
+// Elements that are written one after the other, from the front of a slice on. Those for which it has no room are counted, and
+// not written.
 #[derive(Drop)]
-pub struct Output<'a> {
-    pub bytes: &'a mut [u8],
+pub struct Output<'a, T = u8> {
+    pub room: &'a mut [T],
     pub length: usize,
 }
 
-impl<'a> Output<'a> {
-    pub fn new(bytes: &'a mut [u8]) -> Output<'a> {
-        Output { bytes, length: 0 }
+impl<'a, T: Copy> Output<'a, T> {
+    pub fn new(room: &'a mut [T]) -> Output<'a, T> {
+        Output { room, length: 0 }
     }
 
-    pub fn push(&mut self, byte: u8) {
-        put(self.bytes, self.length, byte);
+    pub fn push(&mut self, x: T) {
+        put(self.room, self.length, x);
         self.length = self.length.saturating_add(1);
     }
 
-    pub fn extend(&mut self, bytes: &[u8]) {
-        for byte in bytes {
-            self.push(*byte);
+    pub fn extend(&mut self, xs: &[T]) {
+        for x in xs {
+            self.push(*x);
         }
     }
 
     // What is written.
-    pub fn written(&self) -> &[u8] {
-        part(self.bytes, 0, self.length)
+    pub fn written(&self) -> &[T] {
+        part(self.room, 0, self.length)
     }
 }

@@ -2,7 +2,7 @@
 use crate::sides::{Said, compare, read, write};
 use crate::{Desk, feeding, putting};
 use making::Dice;
-use retell::{Fault, Refusal};
+use retell::{Event, Fault, Refusal};
 use slices::{Output, add_one, get, part};
 
 // A text, with room for so many events. Answers what must be said of it.
@@ -19,7 +19,9 @@ fn try_reading(names: &[u8], text: &[u8], room: usize, desk: &mut Desk) -> Said 
 // A stream cannot go on at a labelled close.
 fn is_at_labelled(events: &[u8], must: Said) -> bool {
     match must {
-        Err(Refusal::At(Fault::Byte, place)) => retell::is_labelled(get(events, place)),
+        Err(Refusal::At(Fault::Byte, place)) => {
+            matches!(Event::from(get(events, place)), Event::Close(Some(_)))
+        }
         _ => false,
     }
 }

@@ -2,7 +2,7 @@
 use crate::Desk;
 use crate::sides::{Said, compare, fault_at};
 use making::Dice;
-use retell::Refusal;
+use retell::{Event, Refusal};
 use slices::{Output, add_one, back, part, put};
 use tags::reader::{Cursor, end, feed};
 
@@ -24,7 +24,7 @@ fn feed_end(out: &mut [u8], cursor: Cursor, length: usize, given: usize) -> Said
     match fault_at(end(cursor, room)) {
         Some(fault) => Err(Refusal::At(fault, length)),
         None => {
-            put(out, given, 65);
+            put(out, given, u8::from(Event::End));
             Ok(given.saturating_add(1))
         }
     }

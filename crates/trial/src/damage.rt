@@ -3,7 +3,7 @@
 // The second evaluator says by which of 1 to 14 and 16 the call has to be refused, and at which place: 3 and 5 in the file, 7 in
 // memory. Where it says none, memory that no run left may be stepped as it stands: then the watch takes the call, or refuses
 // it by 15, and of a call that is taken the words of the levels are compared, and nothing else.
-use crate::lent::{Lent, copy_of, levels_in, reports_are};
+use crate::lent::{Lengths, Lent, copy_of, levels_in, reports_are};
 use crate::told::{Told, claim_of, said_of};
 use crate::{Desk, tally};
 use engine::Record;
@@ -38,14 +38,6 @@ fn draw_pair(dice: &mut Dice) -> usize {
     entry + 2 * (dice.draw(2) % 2)
 }
 
-// The lengths of what is lent.
-#[derive(Clone, Copy)]
-struct Lengths {
-    file: usize,
-    work: usize,
-    reports: usize,
-}
-
 // What is damaged: one or two bytes of the file, a word of memory, the record; and how much is cut off each slice.
 #[derive(Clone, Copy)]
 struct Harm {
@@ -62,11 +54,7 @@ impl Harm {
             byte: None,
             other: None,
             word: None,
-            cut: Lengths {
-                file: 0,
-                work: 0,
-                reports: 0,
-            },
+            cut: Lengths::default(),
             record,
         }
     }
@@ -197,14 +185,12 @@ fn levels_after(record: Record, work: &[u64], byte: u8) -> [u64; 40] {
 }
 
 // The call itself. Answers whether it was taken.
-fn call(
-    file: &[u8],
-    record: Record,
-    work: &mut [u64],
-    reports: &mut [u32],
-    desk: &mut Desk,
-    byte: u8,
-) -> bool {
+fn call(lent: Lent, desk: &mut Desk, record: Record, byte: u8) -> bool {
+    let Lent {
+        file,
+        work,
+        reports,
+    } = lent;
     let claim = claim_of(record);
     let call = Call {
         file,
@@ -229,41 +215,35 @@ fn call(
 }
 
 // The call with the damage, which is undone then.
-fn call_damaged(
-    file: &mut [u8],
-    work: &mut [u64],
-    reports: &mut [u32],
-    desk: &mut Desk,
-    byte: u8,
-    harm: &Harm,
-) -> bool {
+fn call_damaged(lent: Lent, desk: &mut Desk, harm: &Harm, byte: u8) -> bool {
+    let of = lent.lengths();
+    let Lent {
+        file,
+        work,
+        reports,
+    } = lent;
     harm.flip(file, work);
-    let bytes = file.len().saturating_sub(harm.cut.file);
-    let words = work.len().saturating_sub(harm.cut.work);
-    let room = reports.len().saturating_sub(harm.cut.reports);
-    let taken = call(
-        &file[..bytes],
-        harm.record,
-        &mut work[..words],
-        &mut reports[..room],
-        desk,
-        byte,
-    );
+    let cut = Lent {
+        file: front(file, of.file.saturating_sub(harm.cut.file)),
+        work: front(work, of.work.saturating_sub(harm.cut.work)),
+        reports: front(reports, of.reports.saturating_sub(harm.cut.reports)),
+    };
+    let taken = call(cut, desk, harm.record, byte);
     harm.flip(file, work);
     taken
 }
 
 // A damaged call on a copy of the memory; where it is refused, the copy is as it was.
 pub fn try_damaged(lent: &mut Lent, desk: &mut Desk, record: Record, byte: u8) {
-    let of = Lengths {
-        file: lent.file.len(),
-        work: lent.work.len(),
-        reports: lent.reports.len(),
-    };
+    let of = lent.lengths();
     let harm = Harm::draw(&mut desk.dice, of, record);
     let mut copy = copy_of(lent.work);
-    let work = front(&mut copy, of.work);
-    let taken = call_damaged(lent.file, work, lent.reports, desk, byte, &harm);
+    let damaged = Lent {
+        file: &mut *lent.file,
+        work: front(&mut copy, of.work),
+        reports: &mut *lent.reports,
+    };
+    let taken = call_damaged(damaged, desk, &harm, byte);
     desk.tally.check(taken || copy.starts_with(lent.work));
 }
 

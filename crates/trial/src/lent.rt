@@ -8,6 +8,24 @@ pub struct Lent<'a> {
     pub reports: &'a mut [u32],
 }
 
+// How much of each.
+#[derive(Clone, Copy, Default)]
+pub struct Lengths {
+    pub file: usize,
+    pub work: usize,
+    pub reports: usize,
+}
+
+impl Lent<'_> {
+    pub fn lengths(&self) -> Lengths {
+        Lengths {
+            file: self.file.len(),
+            work: self.work.len(),
+            reports: self.reports.len(),
+        }
+    }
+}
+
 // A copy of work memory, which has at most 8,100 words.
 pub fn copy_of(work: &[u64]) -> [u64; 8100] {
     let mut copy = [0; 8100];

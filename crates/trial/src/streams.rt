@@ -4,8 +4,8 @@ use crate::told::{Told, claim_of, said_of};
 use crate::{Desk, damage, tally};
 use engine::Record;
 use making::Dice;
-use second::Evaluator;
-use slices::{add_one, front, low_byte, part};
+use second::{Evaluator, Event};
+use slices::{Output, add_one, front, low_byte, part};
 
 // How a stream goes.
 #[derive(Clone, Copy)]
@@ -26,17 +26,17 @@ impl Manner {
         }
     }
 
-    // The next byte of a stream: now and then any byte or an end.
-    fn draw_byte(self, dice: &mut Dice, evaluator: &Evaluator) -> usize {
+    // The next event of a stream: now and then any byte or an end.
+    fn draw_event(self, dice: &mut Dice, evaluator: &Evaluator) -> Event {
         if dice.is_one_in(80) {
-            return 65;
+            return Event::End;
         }
         match self {
             Manner::Mixed => draw_step(dice, evaluator, 30, 65),
             Manner::Deep => draw_step(dice, evaluator, 70, 85),
             Manner::Crowded => draw_step(dice, evaluator, 15, 90),
             Manner::Bad => if dice.is_one_in(4) {
-                dice.draw(256)
+                Event::from(low_byte(dice.draw(256)))
             } else {
                 draw_step(dice, evaluator, 35, 70)
             },
@@ -44,35 +44,39 @@ impl Manner {
     }
 }
 
+fn draw_label(dice: &mut Dice, evaluator: &Evaluator) -> u8 {
+    low_byte(dice.draw(evaluator.labels()))
+}
+
 // A close: one that names no label, the newest level's, or any.
-fn draw_close(dice: &mut Dice, evaluator: &Evaluator) -> usize {
+fn draw_close(dice: &mut Dice, evaluator: &Evaluator) -> Event {
     match dice.draw(4) {
-        0 => 64,
-        1 => dice.draw(evaluator.labels()).saturating_add(66),
+        0 => Event::Close,
+        1 => Event::CloseOf(draw_label(dice, evaluator)),
         _ => evaluator.closing(),
     }
 }
 
 // An open, point or close, by how many of a hundred are opens and how many opens or points.
-fn draw_step(dice: &mut Dice, evaluator: &Evaluator, opens: usize, positions: usize) -> usize {
+fn draw_step(dice: &mut Dice, evaluator: &Evaluator, opens: usize, positions: usize) -> Event {
     let x = dice.draw(100);
-    let label = dice.draw(evaluator.labels());
+    let label = draw_label(dice, evaluator);
     if x < opens {
-        label
+        Event::Open(label)
     } else if x < positions {
-        label.saturating_add(32)
+        Event::Point(label)
     } else {
         draw_close(dice, evaluator)
     }
 }
 
-// A byte that brings a stream to its end: a close of one kind or the other, or the end.
-fn last_byte(dice: &mut Dice, evaluator: &Evaluator) -> usize {
+// What brings a stream to its end: a close of one kind or the other, or the end.
+fn draw_last(dice: &mut Dice, evaluator: &Evaluator) -> Event {
     if evaluator.claim().depth == 0 {
-        return 65;
+        return Event::End;
     }
     if dice.is_one_in(2) {
-        64
+        Event::Close
     } else {
         evaluator.closing()
     }
@@ -136,9 +140,10 @@ fn follow_byte(
     record: Record,
     byte: u8,
 ) -> Record {
-    let mut must = [0; 1024];
-    let due = evaluator.follow(&mut must, byte).map_err(Told::from);
-    let count = due.unwrap_or(0);
+    let mut room = [0; 1024];
+    let mut must = Output::new(&mut room);
+    let due = evaluator.follow(byte, &mut must).map_err(Told::from);
+    let count = must.length as u64;
     let file = &mut *lent.file;
     let work = &mut *lent.work;
     let reports = &mut *lent.reports;
@@ -148,10 +153,10 @@ fn follow_byte(
     let said = said_of(answer.outcome);
     let claim = evaluator.claim();
     let kept = said.is_ok() || copy.starts_with(work);
-    let reported = reports_are(reports, part(&must, 0, count as usize));
+    let reported = reports_are(reports, must.written());
     let next = claim_of(answer.next) == claim;
     let labelled = levels_in(work, claim.allowed) == evaluator.levels();
-    let alike = said == due && kept && reported && next && labelled;
+    let alike = said == due.map(|_| count) && kept && reported && next && labelled;
     desk.tally.note(tally::Call::Event, said, alike);
     desk.tally.reports = desk.tally.reports.saturating_add(count);
     answer.next
@@ -168,12 +173,12 @@ fn follow_stream(
 ) {
     let mut record = begun;
     for left in (0..plan.events.saturating_add(42)).rev() {
-        let drawn = if left < 42 {
-            last_byte(&mut desk.dice, evaluator)
+        let event = if left < 42 {
+            draw_last(&mut desk.dice, evaluator)
         } else {
-            plan.manner.draw_byte(&mut desk.dice, evaluator)
+            plan.manner.draw_event(&mut desk.dice, evaluator)
         };
-        let byte = low_byte(drawn);
+        let byte = u8::from(event);
         damage::try_damaged(lent, desk, record, byte);
         record = follow_byte(lent, evaluator, desk, record, byte);
         let may_end = desk.dice.is_one_in(3);
