@@ -150,10 +150,7 @@ impl Harm {
 
     // The damage to the file and the memory; done twice, it is undone.
     fn flip(&self, file: &mut [u8], work: &mut [u64]) {
-        if let Some(Flip { at, bits }) = self.byte {
-            put(file, at, get(file, at) ^ bits);
-        }
-        if let Some(Flip { at, bits }) = self.other {
+        for Flip { at, bits } in [self.byte, self.other].into_iter().flatten() {
             put(file, at, get(file, at) ^ bits);
         }
         if let Some(Flip { at, bits }) = self.word {
