@@ -9,6 +9,7 @@
 
 mod event;
 mod names;
+mod nesting;
 mod reading;
 mod refusal;
 mod seeking;

@@ -1,11 +1,11 @@
 // The reader: each place of the text is judged by itself, and only then are the events written.
 use crate::event::Event;
 use crate::names::{is_good, label_of};
-use crate::refusal::{Fault, Refusal, fault_if};
+use crate::refusal::{Fault, Refusal};
 use crate::text::{
     Form, depth, form_at, is_blank, is_letter, is_name_byte, open_tag, tag_end, tag_of, tags_before,
 };
-use slices::{Output, get, part};
+use slices::{Output, get, part, refuse_if};
 
 // The name of a tag, which ends with a ">" at a place.
 fn name_in(text: &[u8], tag: usize, end: usize) -> &[u8] {
@@ -60,18 +60,18 @@ impl Reading<'_> {
         let form = form_at(text, tag);
         let wrong = form == Some(Form::Closing) && !is_open_name(text, tag, end);
         let deep = form == Some(Form::Opening) && 40 <= depth(text, tag);
-        fault_if(label.is_none(), Fault::Unknown)?;
-        fault_if(wrong, Fault::Closing)?;
-        fault_if(deep, Fault::Deep)?;
-        fault_if(self.room <= tags_before(text, tag), Fault::Short)
+        refuse_if(label.is_none(), Fault::Unknown)?;
+        refuse_if(wrong, Fault::Closing)?;
+        refuse_if(deep, Fault::Deep)?;
+        refuse_if(self.room <= tags_before(text, tag), Fault::Short)
     }
 
     fn judge_byte(&self, at: usize) -> Result<(), Fault> {
         let byte = get(self.text, at);
         let Some(tag) = tag_of(self.text, at) else {
-            return fault_if(!is_blank(byte) && byte != b'<', Fault::Byte);
+            return refuse_if(!is_blank(byte) && byte != b'<', Fault::Byte);
         };
-        fault_if(!fits(self.text, tag, at), Fault::Byte)?;
+        refuse_if(!fits(self.text, tag, at), Fault::Byte)?;
         if byte == b'>' {
             self.judge_tag(tag, at)
         } else {
@@ -82,8 +82,8 @@ impl Reading<'_> {
     fn judge_end(&self) -> Result<(), Fault> {
         let end = self.text.len();
         let open = tag_of(self.text, end).is_some() || depth(self.text, end) != 0;
-        fault_if(open, Fault::Ended)?;
-        fault_if(self.room <= tags_before(self.text, end), Fault::Short)
+        refuse_if(open, Fault::Ended)?;
+        refuse_if(self.room <= tags_before(self.text, end), Fault::Short)
     }
 
     fn judge(&self) -> Result<(), Refusal> {

@@ -22,8 +22,3 @@ pub enum Refusal {
     // The tags of a whole stream have no room.
     Room,
 }
-
-// A line of the faults' table.
-pub fn fault_if(applies: bool, fault: Fault) -> Result<(), Fault> {
-    if applies { Err(fault) } else { Ok(()) }
-}

@@ -1,4 +1,5 @@
 // What stands where in a text, of which everything before the place that is asked about is in order.
+use crate::nesting::{self, Turn};
 use crate::seeking::{count, seek};
 use slices::get;
 
@@ -49,37 +50,22 @@ pub fn form_at(text: &[u8], at: usize) -> Option<Form> {
     Some(Form::Opening)
 }
 
-// Where so many elements are open before a tag: how many are after it.
-fn open_after(text: &[u8], at: usize, open: usize) -> usize {
+fn turn_at(text: &[u8], at: usize) -> Turn {
     match form_at(text, at) {
-        Some(Form::Opening) => open.saturating_add(1),
-        Some(Form::Closing) => open.saturating_sub(1),
-        _ => open,
+        Some(Form::Opening) => Turn::Opens,
+        Some(Form::Closing) => Turn::Closes,
+        _ => Turn::Neither,
     }
 }
 
 // How many elements are open at a place.
 pub fn depth(text: &[u8], place: usize) -> usize {
-    let mut open = 0;
-    for at in 0..place {
-        open = open_after(text, at, open);
-    }
-    open
+    nesting::depth(place, |at| turn_at(text, at))
 }
 
-// The opening tag of the element that is open at a place: the last with one element fewer open before it.
+// The opening tag of the element that is open at a place.
 pub fn open_tag(text: &[u8], place: usize) -> Option<usize> {
-    let level = depth(text, place);
-    let mut found = None;
-    let mut open = 0;
-    for at in 0..place {
-        let after = open_after(text, at, open);
-        if after == level && open < after {
-            found = Some(at);
-        }
-        open = after;
-    }
-    found
+    nesting::opened(place, |at| turn_at(text, at))
 }
 
 // How many tags begin before a place.

@@ -2,40 +2,27 @@
 // and then once more.
 use crate::event::Event;
 use crate::names::{is_good, lines, name_of};
+use crate::nesting::{self, Turn};
 use crate::refusal::{Fault, Refusal};
 use slices::{Output, get, part};
 
-// Where so many elements are open before an event: how many are after it.
-fn open_after(byte: u8, open: usize) -> usize {
-    match Event::from(byte) {
-        Event::Open(_) => open.saturating_add(1),
-        Event::Close(_) => open.saturating_sub(1),
-        _ => open,
+fn turn_at(events: &[u8], at: usize) -> Turn {
+    match Event::from(get(events, at)) {
+        Event::Open(_) => Turn::Opens,
+        Event::Close(_) => Turn::Closes,
+        _ => Turn::Neither,
     }
 }
 
 // How many elements are open after some events.
 fn depth(events: &[u8]) -> usize {
-    let mut open = 0;
-    for byte in events {
-        open = open_after(*byte, open);
-    }
-    open
+    nesting::depth(events.len(), |at| turn_at(events, at))
 }
 
-// The label of the element that is open after some events: of the last that was opened with one fewer open.
+// The label of the element that is open after some events.
 pub fn open_label(events: &[u8]) -> Option<u8> {
-    let level = depth(events);
-    let mut label = None;
-    let mut open = 0;
-    for byte in events {
-        let after = open_after(*byte, open);
-        if after == level && open < after {
-            label = Some(*byte);
-        }
-        open = after;
-    }
-    label
+    let opened = nesting::opened(events.len(), |at| turn_at(events, at));
+    opened.map(|at| get(events, at))
 }
 
 // The events before a place.

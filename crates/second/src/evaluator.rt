@@ -5,9 +5,9 @@ use crate::event::Event;
 use crate::file::{labels, start_state, states};
 use crate::order::Claim;
 use crate::reach::{Reach, States};
-use crate::refusal::{Refusal, refuse_if};
+use crate::refusal::Refusal;
 use crate::run::Run;
-use slices::{Output, get, low_byte, put};
+use slices::{Output, get, low_byte, put, refuse_if};
 
 // What all completions say of a position.
 #[derive(Clone, Copy, PartialEq, Eq)]

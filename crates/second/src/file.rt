@@ -2,8 +2,8 @@
 //
 // What stands behind the header is judged byte by byte, by the byte's place: in the contents, entry and field follow by
 // division; in the bodies, the body follows from the offsets.
-use crate::refusal::{Refusal, refuse_if};
-use slices::{get, low_byte, pair};
+use crate::refusal::Refusal;
+use slices::{get, low_byte, pair, refuse_if};
 
 pub fn states(file: &[u8]) -> usize {
     usize::from(get(file, 0))

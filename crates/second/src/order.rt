@@ -6,8 +6,8 @@ ghost use Rattle.std.specs.Prelude.{◌<◌};
 
 use crate::event::Event;
 use crate::file::{file_refusal, is_product, labels, states};
-use crate::refusal::{Refusal, refuse_if};
-use slices::get;
+use crate::refusal::Refusal;
+use slices::{get, refuse_if};
 
 // What a caller's record says.
 #[derive(Clone, Copy, Default, PartialEq, Eq)]

@@ -46,8 +46,3 @@ impl Refusal {
         }
     }
 }
-
-// A line of the refusals' table.
-pub fn refuse_if(applies: bool, why: Refusal) -> Result<(), Refusal> {
-    if applies { Err(why) } else { Ok(()) }
-}

@@ -19,6 +19,11 @@ pub fn add_one(count: &mut u64) {
     *count = count.saturating_add(1);
 }
 
+// A line of a table of refusals: the first that applies is the one that falls.
+pub fn refuse_if<E: Copy>(applies: bool, why: E) -> Result<(), E> {
+    if applies { Err(why) } else { Ok(()) }
+}
+
 // The last byte of a number.
 pub fn low_byte(x: usize) -> u8 {
     (x % 256) as u8
