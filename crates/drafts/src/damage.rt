@@ -13,18 +13,18 @@ fn draw_byte(dice: &mut Dice, signs: &[u8], there: u8) -> u8 {
 
 // The byte comes in so many times at a place.
 fn put_in(draft: &mut Output, at: usize, count: usize, byte: u8) {
-    for from in (at..draft.length).rev() {
-        let moved = get(draft.room, from);
-        put(draft.room, from.saturating_add(count), moved);
-    }
-    front(back(draft.room, at), count).fill(byte);
-    draft.length = draft.length.saturating_add(count);
+    let length = draft.length.saturating_add(count);
+    let behind = back(front(draft.room, length), at);
+    let fitting = count.min(behind.len());
+    behind.rotate_right(fitting);
+    behind[..fitting].fill(byte);
+    draft.length = length;
 }
 
 fn take_out(draft: &mut Output, at: usize) {
-    for to in at..draft.length {
-        let moved = get(draft.room, to.saturating_add(1));
-        put(draft.room, to, moved);
+    let behind = back(front(draft.room, draft.length.saturating_add(1)), at);
+    if !behind.is_empty() {
+        behind.copy_within(1.., 0);
     }
     draft.length = draft.length.saturating_sub(1);
 }

@@ -1,6 +1,6 @@
 // Makes tables: bodies drawn in one of some styles, and the contents that they ask for.
 use crate::dice::Dice;
-use slices::{Output, low_byte, pair, part};
+use slices::{Output, copy, low_byte, pair, part};
 
 #[derive(Clone, Copy)]
 enum Style {
@@ -65,17 +65,19 @@ impl Size {
     }
 }
 
-// A row of a body.
-fn push_row(table: &mut Output, dice: &mut Dice, style: Style, n: usize, q: usize, width: usize) {
-    for _ in 0..width {
-        table.push(low_byte(style.step(dice, n, q)));
+// The states that the labels open with, any.
+fn push_openings(table: &mut Output, dice: &mut Dice, n: usize, k: usize) {
+    for _ in 0..k {
+        table.push(low_byte(dice.draw(n)));
     }
 }
 
-// The rows of a body.
+// The rows of a body: one for each state.
 fn push_rows(table: &mut Output, dice: &mut Dice, style: Style, n: usize, width: usize) {
     for q in 0..n {
-        push_row(table, dice, style, n, q, width);
+        for _ in 0..width {
+            table.push(low_byte(style.step(dice, n, q)));
+        }
     }
 }
 
@@ -90,7 +92,7 @@ fn push_finals(table: &mut Output, dice: &mut Dice, n: usize) {
 fn push_bodies(table: &mut Output, dice: &mut Dice, style: Style, size: Size) {
     let n = usize::from(size.states);
     let k = usize::from(size.labels);
-    push_row(table, dice, Style::Any, n, 0, k);
+    push_openings(table, dice, n, k);
     push_rows(table, dice, style, n, k);
     push_rows(table, dice, style, n, 1);
     push_rows(table, dice, style, n, n);
@@ -131,8 +133,6 @@ pub fn make_any(file: &mut [u8], dice: &mut Dice) -> usize {
 // from the last contents entry.
 pub fn copy_table(given: &[u8], file: &mut [u8]) -> usize {
     let bytes = usize::from(pair(given, 25)) + usize::from(pair(given, 27));
-    for (to, from) in file.iter_mut().zip(part(given, 0, bytes)) {
-        *to = *from;
-    }
+    copy(file, part(given, 0, bytes));
     bytes
 }

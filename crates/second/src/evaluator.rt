@@ -141,13 +141,7 @@ impl Evaluator {
 
     // Where the level under a closing one can be at its own end: it waits in q, and the closing one ends in the set.
     fn after_close(&self, q: usize, set: States) -> States {
-        let mut ends = States::default();
-        for p in 0..64 {
-            if set.has(p) {
-                ends = ends.or(self.reach.ends_from(self.book.apply(q, p)));
-            }
-        }
-        ends
+        set.lead_to(|p| self.reach.ends_from(self.book.apply(q, p)))
     }
 
     // The states in which some completion ends.

@@ -13,16 +13,28 @@ impl States {
         p < 64 && (self.bits >> p) % 2 == 1
     }
 
-    fn with(mut self, p: usize) -> States {
-        if p < 64 {
-            self.bits |= 1 << p;
+    fn one(p: usize) -> States {
+        States {
+            bits: if p < 64 { 1 << p } else { 0 },
         }
-        self
     }
 
     pub fn or(mut self, other: States) -> States {
         self.bits |= other.bits;
         self
+    }
+
+    // All that its states lead to.
+    pub fn lead_to<F: Fn(usize) -> States>(self, ends: F) -> States
+        requires { F.IsAlwaysCallable ends }
+    {
+        let mut all = States::default();
+        for p in 0..64 {
+            if self.has(p) {
+                all = all.or(ends(p));
+            }
+        }
+        all
     }
 }
 
@@ -54,7 +66,7 @@ impl Reach {
     // Each state is reached by the empty hedge.
     fn add_empty(&mut self) {
         for (q, ends) in self.ends.iter_mut().enumerate() {
-            *ends = ends.with(q);
+            *ends = States::one(q);
         }
     }
 
@@ -80,33 +92,20 @@ impl Reach {
     }
 }
 
-// The set with every state to which a point takes p.
-fn with_points(book: &Book, p: usize, k: usize, set: States) -> States {
-    let mut grown = set;
+// The states to which a point takes p.
+fn point_ends(book: &Book, p: usize, k: usize) -> States {
+    let mut ends = States::default();
     for a in 0..k {
-        grown = grown.with(book.point(p, a));
+        ends = ends.or(States::one(book.point(p, a)));
     }
-    grown
+    ends
 }
 
-// The set with every state to which a whole tree takes p.
-fn with_trees(book: &Book, p: usize, trees: States, set: States) -> States {
-    let mut grown = set;
-    for r in 0..64 {
-        if trees.has(r) {
-            grown = grown.with(book.apply(p, r));
-        }
-    }
-    grown
-}
-
-// The set with whatever one more point or tree takes its states to.
+// The set with whatever one more point, or tree that ends in one of some states, takes its states to.
 fn grown(book: &Book, k: usize, trees: States, set: States) -> States {
-    let mut next = set;
-    for p in 0..64 {
-        if set.has(p) {
-            next = with_trees(book, p, trees, with_points(book, p, k, next));
-        }
-    }
-    next
+    let further = set.lead_to(|p| {
+        let by_tree = trees.lead_to(|r| States::one(book.apply(p, r)));
+        by_tree.or(point_ends(book, p, k))
+    });
+    set.or(further)
 }

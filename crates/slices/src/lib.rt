@@ -14,6 +14,12 @@ pub fn put<T: Copy>(s: &mut [T], at: usize, x: T) {
     }
 }
 
+// Copies as many elements as both slices have.
+pub fn copy<T: Copy>(to: &mut [T], from: &[T]) {
+    let count = to.len().min(from.len());
+    to[..count].copy_from_slice(&from[..count]);
+}
+
 // One more is counted.
 pub fn add_one(count: &mut u64) {
     *count = count.saturating_add(1);

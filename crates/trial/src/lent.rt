@@ -1,5 +1,5 @@
 // What is lent to the watch, and what must stand in it.
-use slices::part;
+use slices::{copy, part};
 
 #[derive(Drop)]
 pub struct Lent<'a> {
@@ -28,20 +28,16 @@ impl Lent<'_> {
 
 // A copy of work memory, which has at most 8,100 words.
 pub fn copy_of(work: &[u64]) -> [u64; 8100] {
-    let mut copy = [0; 8100];
-    for (to, from) in copy.iter_mut().zip(work) {
-        *to = *from;
-    }
-    copy
+    let mut words = [0; 8100];
+    copy(&mut words, work);
+    words
 }
 
 // The words of the levels, which stand at the end of work memory, level 1 first; 0 above the depth allowed.
 pub fn levels_in(work: &[u64], allowed: u64) -> [u64; 40] {
     let from = work.len().saturating_sub(allowed as usize);
     let mut levels = [0; 40];
-    for (to, from) in levels.iter_mut().zip(part(work, from, work.len())) {
-        *to = *from;
-    }
+    copy(&mut levels, part(work, from, work.len()));
     levels
 }
 
