@@ -1,12 +1,12 @@
 // Damages what is written: a list, a text or a stream.
 use making::Dice;
-use slices::{Output, back, front, get, put};
+use slices::{Output, back, front, get, low_byte, put};
 
 // One of the signs, the byte that is there, or any byte.
 fn draw_byte(dice: &mut Dice, signs: &[u8], there: u8) -> u8 {
     match dice.draw(6) {
         0 => there,
-        1 | 2 => slices::low_byte(dice.draw(256)),
+        1 | 2 => low_byte(dice.draw(256)),
         _ => get(signs, dice.draw(signs.len())),
     }
 }
@@ -31,10 +31,10 @@ fn take_out(draft: &mut Output, at: usize) {
 
 // Two bytes change places.
 fn exchange(draft: &mut Output, at: usize, other: usize) {
-    let byte = get(draft.room, at);
-    let moved = get(draft.room, other);
-    put(draft.room, at, moved);
-    put(draft.room, other, byte);
+    let length = draft.room.len();
+    if at < length && other < length {
+        draft.room.swap(at, other);
+    }
 }
 
 // One damage; the signs are bytes that mean something there.

@@ -60,6 +60,11 @@ fn draw_byte(dice: &mut Dice, bytes: usize) -> u8 {
     )
 }
 
+// The last decimal digit of a number.
+fn digit(number: usize) -> u8 {
+    low_byte(usize::from(b'0') + number % 10)
+}
+
 fn push_name(names: &mut Output, dice: &mut Dice, naming: Naming, number: usize) {
     match naming {
         Naming::Drawn { first, then, most } => {
@@ -72,8 +77,8 @@ fn push_name(names: &mut Output, dice: &mut Dice, naming: Naming, number: usize)
         // 16 bytes, which end in the number.
         Naming::Numbered => {
             names.extend(b"Storm.gate-no_");
-            names.push(low_byte(48 + number / 10 % 10));
-            names.push(low_byte(48 + number % 10));
+            names.push(digit(number / 10));
+            names.push(digit(number));
         }
     }
 }

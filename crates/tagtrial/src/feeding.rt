@@ -55,11 +55,11 @@ fn feed_text(names: &[u8], text: &[u8], out: &mut [u8], desk: &mut Desk) -> Said
 
 // The events that must come: up to the fault, or all.
 fn must_feed(names: &[u8], text: &[u8], out: &mut [u8], must: Said) -> Said {
-    match must {
-        Err(Refusal::At(_, place)) => retell::tell(names, text, place, &mut Output::new(out)),
-        _ => return retell::read(names, text, out),
+    if let Err(Refusal::At(_, place)) = must {
+        retell::tell(names, text, place, &mut Output::new(out));
+        return must;
     }
-    must
+    retell::read(names, text, out)
 }
 
 // A text in pieces, with room for so many events.
