@@ -1,127 +1,94 @@
 // Draws lists of names. Most are good; others are empty, have a name twice, 33 names, a name of 17 bytes, or a damage.
 use crate::damage;
-use making::{between, draw, is_one_in};
-use slices::{get, minus, plus, put};
+use making::Dice;
+use slices::{Output, get, low_byte};
 
-// How the names of a list are made: of so many bytes of the alphabet, at first and then, and at most so many; or numbered. With
-// it how many names there are at most.
+// How names are made.
+#[derive(Clone, Copy)]
+enum Naming {
+    // Of so many bytes of the alphabet, at first and then, and at most so many.
+    Drawn {
+        first: usize,
+        then: usize,
+        most: usize,
+    },
+    Numbered,
+}
+
+// How the names of a list are made, and how many there are at most.
 #[derive(Clone, Copy)]
 struct Plan {
-    numbered: bool,
-    first: usize,
-    bytes: usize,
-    most: usize,
+    naming: Naming,
     lines: usize,
 }
 
-// A few short names of two letters, of which one is often the front of another, or the same; a few of any bytes; many of any
-// bytes; many that differ in their last two bytes.
-fn plan_of(way: usize) -> Plan {
-    match way {
-        0 => Plan {
-            numbered: false,
-            first: 2,
-            bytes: 2,
-            most: 3,
-            lines: 4,
-        },
-        1 => Plan {
-            numbered: false,
-            first: 52,
-            bytes: 65,
-            most: 16,
-            lines: 8,
-        },
-        2 => Plan {
-            numbered: false,
-            first: 52,
-            bytes: 65,
-            most: 17,
-            lines: 33,
-        },
-        _ => Plan {
-            numbered: true,
-            first: 0,
-            bytes: 0,
-            most: 16,
-            lines: 33,
-        },
+impl Plan {
+    // A few short names of two letters, of which one is often the front of another, or the same; a few of any bytes; many of any
+    // bytes; many that differ in their last two bytes.
+    fn draw(dice: &mut Dice) -> Plan {
+        let (first, then, most, lines) = match dice.draw(4) {
+            0 => (2, 2, 3, 4),
+            1 => (52, 65, 16, 8),
+            2 => (52, 65, 17, 33),
+            _ => {
+                return Plan {
+                    naming: Naming::Numbered,
+                    lines: 33,
+                };
+            }
+        };
+        Plan {
+            naming: Naming::Drawn { first, then, most },
+            lines,
+        }
     }
-}
 
-// How many names: any number of few, and nearly all of many; now and then none.
-fn draw_lines(desk: &mut [u64], most: usize) -> usize {
-    if is_one_in(desk, 50) {
-        return 0;
+    // How many names: any number of few, and nearly all of many; now and then none.
+    fn draw_lines(self, dice: &mut Dice) -> usize {
+        if dice.is_one_in(50) {
+            return 0;
+        }
+        dice.between(self.lines.saturating_sub(8).saturating_add(1), self.lines)
     }
-    between(desk, plus(minus(most, 8), 1), most)
 }
 
 // One of the first bytes of the alphabet.
-fn draw_byte(desk: &mut [u64], bytes: usize) -> usize {
+fn draw_byte(dice: &mut Dice, bytes: usize) -> u8 {
     get(
         b"abcdefghijklmnopqrstuvwxyzABCDEFGHIJKLMNOPQRSTUVWXYZ0123456789-._",
-        draw(desk, bytes),
+        dice.draw(bytes),
     )
 }
 
-// A name of so many bytes.
-fn put_drawn(names: &mut [u8], at: usize, desk: &mut [u64], plan: Plan, count: usize) -> usize {
-    put(names, at, draw_byte(desk, plan.first));
-    let mut i = 1;
-    while i < count {
-        put(names, plus(at, i), draw_byte(desk, plan.bytes));
-        i += 1;
+// The last decimal digit of a number.
+fn digit(number: usize) -> u8 {
+    low_byte(usize::from(b'0') + number % 10)
+}
+
+fn push_name(names: &mut Output, dice: &mut Dice, naming: Naming, number: usize) {
+    match naming {
+        Naming::Drawn { first, then, most } => {
+            let count = dice.between(1, most);
+            names.push(draw_byte(dice, first));
+            for _ in 1..count {
+                names.push(draw_byte(dice, then));
+            }
+        }
+        // 16 bytes, which end in the number.
+        Naming::Numbered => {
+            names.extend(b"Storm.gate-no_");
+            names.push(digit(number / 10));
+            names.push(digit(number));
+        }
     }
-    plus(at, count)
 }
 
-// Puts bytes at a place. Answers the place after them.
-pub fn put_bytes(to: &mut [u8], at: usize, bytes: &[u8]) -> usize {
-    let mut i = 0;
-    while i < bytes.len() {
-        put(to, plus(at, i), get(bytes, i));
-        i += 1;
+// Makes a list.
+pub fn make(names: &mut Output, dice: &mut Dice) {
+    let plan = Plan::draw(dice);
+    for number in 0..plan.draw_lines(dice) {
+        push_name(names, dice, plan.naming, number);
+        names.push(b'\n');
     }
-    plus(at, bytes.len())
-}
-
-// A name of 16 bytes that ends in a number.
-fn put_numbered(names: &mut [u8], at: usize, number: usize) -> usize {
-    let end = put_bytes(names, at, b"Storm.gate-no_");
-    put(names, end, 48 + number / 10 % 10);
-    put(names, plus(end, 1), 48 + number % 10);
-    plus(end, 2)
-}
-
-fn put_name(names: &mut [u8], at: usize, desk: &mut [u64], plan: Plan, number: usize) -> usize {
-    if plan.numbered {
-        return put_numbered(names, at, number);
-    }
-    let count = between(desk, 1, plan.most);
-    put_drawn(names, at, desk, plan, count)
-}
-
-fn put_line(names: &mut [u8], at: usize, desk: &mut [u64], plan: Plan, number: usize) -> usize {
-    let end = put_name(names, at, desk, plan, number);
-    put(names, end, 10);
-    plus(end, 1)
-}
-
-fn put_lines(names: &mut [u8], desk: &mut [u64], plan: Plan, lines: usize) -> usize {
-    let mut at = 0;
-    let mut number = 0;
-    while number < lines {
-        at = put_line(names, at, desk, plan, number);
-        number += 1;
-    }
-    at
-}
-
-// Makes a list. Answers its length.
-pub fn make(names: &mut [u8], desk: &mut [u64]) -> usize {
-    let plan = plan_of(draw(desk, 4));
-    let lines = draw_lines(desk, plan.lines);
-    let length = put_lines(names, desk, plan, lines);
-    damage::harm_some(names, length, desk, b"\n\n\naAzZ09-._<>/ ", 5)
+    damage::harm_some(names, dice, b"\n\n\naAzZ09-._<>/ ", 5);
 }

@@ -1,155 +1,116 @@
 // Draws streams of events, with labelled closes and others; now and then a label is wrong.
 use crate::damage;
-use making::{between, draw, is_one_in};
-use slices::{minus, plus, put};
-
-// The close without a label.
-const CLOSE: usize = 64;
+use making::Dice;
+use retell::Event;
+use slices::{Output, low_byte};
 
 // How many events, how deep at most, and how many of a hundred events open an element where one may: a deep stream has about
-// as many open as there may be. With it how many of a hundred closes are labelled.
+// as many open as there may be. With it how many of a hundred closes are labelled, and how many labels have a name.
 #[derive(Clone, Copy)]
 struct Plan {
     events: usize,
     limit: usize,
     opens: usize,
     labelled: usize,
+    labels: usize,
 }
 
-fn draw_events(desk: &mut [u64], deep: bool) -> usize {
-    if deep {
-        between(desk, 60, 110)
-    } else {
-        let most = draw(desk, 60);
-        draw(desk, most)
+impl Plan {
+    fn draw(dice: &mut Dice, labels: usize) -> Plan {
+        let deep = dice.is_one_in(4);
+        Plan {
+            events: draw_events(dice, deep),
+            limit: if deep {
+                dice.between(39, 42)
+            } else {
+                dice.draw(7)
+            },
+            opens: if deep { 90 } else { 40 },
+            labelled: draw_labelled(dice),
+            labels,
+        }
+    }
+
+    // An event where so many elements are open. A close has no label yet.
+    fn draw_event(self, dice: &mut Dice, depth: usize) -> Event {
+        let x = dice.draw(100);
+        let label = low_byte(dice.draw(self.labels));
+        if x < self.opens && depth < self.limit {
+            Event::Open(label)
+        } else if x < 70 || depth == 0 {
+            Event::Point(label)
+        } else {
+            Event::Close(None)
+        }
+    }
+
+    // The label of a close: that of the open element; now and then any with a name, or any at all.
+    fn draw_label(self, dice: &mut Dice, open: u8) -> u8 {
+        match dice.draw(150) {
+            0 => low_byte(dice.draw(self.labels)),
+            1 => low_byte(dice.draw(32)),
+            _ => open,
+        }
+    }
+
+    // A close, which may get a label.
+    fn push_close(self, events: &mut Output, dice: &mut Dice) {
+        let mut label = None;
+        if dice.draw(100) < self.labelled {
+            let open = retell::open_label(events.written()).unwrap_or(0);
+            label = Some(self.draw_label(dice, open));
+        }
+        events.push(u8::from(Event::Close(label)));
+    }
+
+    // Events one after the other. Answers how many elements are open then.
+    fn push_events(self, events: &mut Output, dice: &mut Dice) -> usize {
+        let mut depth = 0usize;
+        for _ in 0..self.events {
+            match self.draw_event(dice, depth) {
+                Event::Close(_) => {
+                    self.push_close(events, dice);
+                    depth = depth.saturating_sub(1);
+                }
+                Event::Open(label) => {
+                    events.push(u8::from(Event::Open(label)));
+                    depth = depth.saturating_add(1);
+                }
+                other => events.push(u8::from(other)),
+            }
+        }
+        depth
     }
 }
 
-fn draw_limit(desk: &mut [u64], deep: bool) -> usize {
+fn draw_events(dice: &mut Dice, deep: bool) -> usize {
     if deep {
-        between(desk, 39, 42)
+        dice.between(60, 110)
     } else {
-        draw(desk, 7)
+        let most = dice.draw(60);
+        dice.draw(most)
     }
 }
 
 // Of a hundred closes none, all or half.
-fn draw_labelled(desk: &mut [u64]) -> usize {
-    match draw(desk, 3) {
+fn draw_labelled(dice: &mut Dice) -> usize {
+    match dice.draw(3) {
         0 => 0,
         1 => 100,
         _ => 50,
     }
 }
 
-fn draw_plan(desk: &mut [u64]) -> Plan {
-    let deep = is_one_in(desk, 4);
-    let events = draw_events(desk, deep);
-    Plan {
-        events: events,
-        limit: draw_limit(desk, deep),
-        opens: if deep { 90 } else { 40 },
-        labelled: draw_labelled(desk),
+// Makes a whole stream, but for its depth and for wrong labels.
+pub fn make(events: &mut Output, dice: &mut Dice, labels: usize) {
+    let plan = Plan::draw(dice, labels);
+    for _ in 0..plan.push_events(events, dice) {
+        plan.push_close(events, dice);
     }
-}
-
-// An event where so many elements are open. A close has no label yet.
-fn draw_event(desk: &mut [u64], plan: Plan, labels: usize, depth: usize) -> usize {
-    let x = draw(desk, 100);
-    let label = draw(desk, labels);
-    if (x < plan.opens) & (depth < plan.limit) {
-        label
-    } else if (x < 70) | (depth == 0) {
-        plus(32, label)
-    } else {
-        CLOSE
-    }
-}
-
-// The label of a close: that of the open element; now and then any with a name, or any at all.
-fn draw_label(desk: &mut [u64], labels: usize, open: usize) -> usize {
-    match draw(desk, 150) {
-        0 => draw(desk, labels),
-        1 => draw(desk, 32),
-        _ => open,
-    }
-}
-
-// A close at a place.
-fn draw_close(events: &[u8], at: usize, desk: &mut [u64], labelled: usize, labels: usize) -> usize {
-    if labelled <= draw(desk, 100) {
-        return CLOSE;
-    }
-    let open = retell::open_label(events, at);
-    plus(retell::LABELLED, draw_label(desk, labels, open))
-}
-
-// Puts an event at a place. A close may get a label there.
-fn put_event(
-    events: &mut [u8],
-    at: usize,
-    desk: &mut [u64],
-    labelled: usize,
-    labels: usize,
-    event: usize,
-) {
-    if event == CLOSE {
-        let close = draw_close(events, at, desk, labelled, labels);
-        put(events, at, close);
-    } else {
-        put(events, at, event);
-    }
-}
-
-fn depth_after(event: usize, depth: usize) -> usize {
-    if event < 32 {
-        plus(depth, 1)
-    } else if event == CLOSE {
-        minus(depth, 1)
-    } else {
-        depth
-    }
-}
-
-// Puts events one after the other. Answers how many elements are open then.
-fn put_events(events: &mut [u8], desk: &mut [u64], plan: Plan, labels: usize) -> usize {
-    let mut depth = 0;
-    let mut at = 0;
-    while at < plan.events {
-        let event = draw_event(desk, plan, labels, depth);
-        put_event(events, at, desk, plan.labelled, labels, event);
-        depth = depth_after(event, depth);
-        at += 1;
-    }
-    depth
-}
-
-// Closes so many elements, and ends the stream. Answers its length.
-fn put_end(
-    events: &mut [u8],
-    from: usize,
-    desk: &mut [u64],
-    labelled: usize,
-    labels: usize,
-    depth: usize,
-) -> usize {
-    let mut i = 0;
-    while i < depth {
-        put_event(events, plus(from, i), desk, labelled, labels, CLOSE);
-        i += 1;
-    }
-    put(events, plus(from, depth), 65);
-    plus(from, plus(depth, 1))
-}
-
-// Makes a whole stream, but for its depth and for wrong labels. Answers its length.
-pub fn make(events: &mut [u8], desk: &mut [u64], labels: usize) -> usize {
-    let plan = draw_plan(desk);
-    let depth = put_events(events, desk, plan, labels);
-    put_end(events, plan.events, desk, plan.labelled, labels, depth)
+    events.push(u8::from(Event::End));
 }
 
 // Damages one of so many streams.
-pub fn harm(events: &mut [u8], length: usize, desk: &mut [u64], of: usize) -> usize {
-    damage::harm_some(events, length, desk, b"\0\x01\x1f !?@@@AAABBCab", of)
+pub fn harm(events: &mut Output, dice: &mut Dice, of: usize) {
+    damage::harm_some(events, dice, b"\0\x01\x1f !?@@@AAABBCab", of);
 }

@@ -1,33 +1,41 @@
-// Numbers that look random. The seed is a word of the desk.
-use slices::{plus, put_word, word};
+// Numbers that look random.
 
-pub const SEED: usize = 21;
-
-// The next word.
-fn turn(x: u64) -> u64 {
-    let y = x ^ (x << 13);
-    let z = y ^ (y >> 7);
-    z ^ (z << 17)
+#[derive(Drop)]
+pub struct Dice {
+    seed: u64,
 }
 
-// A number below a limit; 0 below 0.
-pub fn draw(desk: &mut [u64], limit: usize) -> usize {
-    if limit == 0 {
-        return 0;
+impl Dice {
+    pub fn new(seed: u64) -> Dice {
+        Dice { seed }
     }
-    let x = turn(word(desk, SEED));
-    put_word(desk, SEED, x);
-    ((x >> 20) % (limit as u64)) as usize
-}
 
-// A number from one up to another.
-pub fn between(desk: &mut [u64], low: usize, high: usize) -> usize {
-    if high < low {
-        return low;
+    // The next word.
+    fn turn(&mut self) -> u64 {
+        let x = self.seed;
+        let y = x ^ (x << 13);
+        let z = y ^ (y >> 7);
+        self.seed = z ^ (z << 17);
+        self.seed
     }
-    plus(low, draw(desk, plus(high - low, 1)))
-}
 
-pub fn is_one_in(desk: &mut [u64], of: usize) -> bool {
-    draw(desk, of) == 0
+    // A number below a limit; 0 below 0.
+    pub fn draw(&mut self, limit: usize) -> usize {
+        if limit == 0 {
+            return 0;
+        }
+        ((self.turn() >> 20) % (limit as u64)) as usize
+    }
+
+    // A number from one up to another.
+    pub fn between(&mut self, low: usize, high: usize) -> usize {
+        if high < low {
+            return low;
+        }
+        low.saturating_add(self.draw((high - low).saturating_add(1)))
+    }
+
+    pub fn is_one_in(&mut self, of: usize) -> bool {
+        self.draw(of) == 0
+    }
 }

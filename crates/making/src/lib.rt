@@ -1,8 +1,8 @@
-// What the trial is made of: numbers that look random, from a seed, and tables drawn by them. Nothing is assumed of a caller.
+// What the trials are made of: numbers that look random, from a seed, and tables drawn by them. Nothing is assumed of a caller.
 #![tactic(auto)]
 
 mod dice;
 mod tables;
 
-pub use dice::{SEED, between, draw, is_one_in};
+pub use dice::Dice;
 pub use tables::{copy_table, make_any};

@@ -1,6 +1,6 @@
 // Makes tables: bodies drawn in one of some styles, and the contents that they ask for.
-use crate::dice::{between, draw, is_one_in};
-use slices::{get, minus, pair, plus, put};
+use crate::dice::Dice;
+use slices::{Output, copy, low_byte, pair, part};
 
 #[derive(Clone, Copy)]
 enum Style {
@@ -12,153 +12,127 @@ enum Style {
     Sink,
 }
 
-// A step of state q.
-fn target(desk: &mut [u64], style: Style, n: usize, q: usize) -> usize {
-    match style {
-        Style::Any => draw(desk, n),
-        Style::Rising => plus(q, draw(desk, minus(n, q))),
-        Style::Sink => if plus(q, 1) == n { q } else { draw(desk, n) },
+impl Style {
+    fn draw(dice: &mut Dice) -> Style {
+        match dice.draw(4) {
+            0 => Style::Any,
+            1 => Style::Sink,
+            _ => Style::Rising,
+        }
+    }
+
+    // A step of state q, of n.
+    fn step(self, dice: &mut Dice, n: usize, q: usize) -> usize {
+        match self {
+            Style::Any => dice.draw(n),
+            Style::Rising => q.saturating_add(dice.draw(n.saturating_sub(q))),
+            Style::Sink => if q.saturating_add(1) == n {
+                q
+            } else {
+                dice.draw(n)
+            },
+        }
     }
 }
 
-// A row of a body, from a place on. Answers the place after it.
-fn put_row(
-    file: &mut [u8],
-    desk: &mut [u64],
-    style: Style,
-    n: usize,
-    q: usize,
-    width: usize,
-    at: usize,
-) -> usize {
-    let mut i = 0;
-    while i < width {
-        put(file, plus(at, i), target(desk, style, n, q));
-        i += 1;
-    }
-    plus(at, width)
+// How many states and labels a table has.
+#[derive(Clone, Copy)]
+struct Size {
+    states: u8,
+    labels: u8,
 }
 
-// The rows of a body.
-fn put_rows(
-    file: &mut [u8],
-    desk: &mut [u64],
-    style: Style,
-    n: usize,
-    width: usize,
-    at: usize,
-) -> usize {
-    let mut to = at;
-    let mut q = 0;
-    while q < n {
-        to = put_row(file, desk, style, n, q, width, to);
-        q += 1;
+impl Size {
+    // One of some sizes: mostly small ones, and now and then those at the limits.
+    fn draw(dice: &mut Dice) -> Size {
+        let size = dice.draw(20);
+        let (states, labels) = match size {
+            0 => (64, 32),
+            1 => (1, 1),
+            _ => (dice.between(2, 7), dice.between(1, 3)),
+        };
+        Size {
+            states: low_byte(states),
+            labels: low_byte(labels),
+        }
     }
-    to
+
+    // The lengths of the bodies, in their order.
+    fn lengths(self) -> [usize; 5] {
+        let n = usize::from(self.states);
+        let k = usize::from(self.labels);
+        [k, n * k, n, n * n, n]
+    }
+}
+
+// The states that the labels open with, any.
+fn push_openings(table: &mut Output, dice: &mut Dice, n: usize, k: usize) {
+    for _ in 0..k {
+        table.push(low_byte(dice.draw(n)));
+    }
+}
+
+// The rows of a body: one for each state.
+fn push_rows(table: &mut Output, dice: &mut Dice, style: Style, n: usize, width: usize) {
+    for q in 0..n {
+        for _ in 0..width {
+            table.push(low_byte(style.step(dice, n, q)));
+        }
+    }
 }
 
 // The final states: few of them, or about half.
-fn put_finals(file: &mut [u8], desk: &mut [u64], n: usize, at: usize) -> usize {
-    let few = is_one_in(desk, 2);
-    let of = if few { n } else { 2 };
-    let mut i = 0;
-    while i < n {
-        put(file, plus(at, i), is_one_in(desk, of) as usize);
-        i += 1;
-    }
-    plus(at, n)
-}
-
-fn put_pair(file: &mut [u8], at: usize, x: usize) {
-    put(file, at, x % 256);
-    put(file, plus(at, 1), x / 256);
-}
-
-// The contents entry of a body that stands from one place to another.
-fn put_entry(file: &mut [u8], kind: usize, from: usize, to: usize) {
-    if kind < 6 {
-        let at = 5 * kind;
-        put(file, minus(at, 1), kind);
-        put_pair(file, at, from);
-        put_pair(file, plus(at, 2), minus(to, from));
+fn push_finals(table: &mut Output, dice: &mut Dice, n: usize) {
+    let of = if dice.is_one_in(2) { n } else { 2 };
+    for _ in 0..n {
+        table.push(u8::from(dice.is_one_in(of)));
     }
 }
 
-// Where each body ends.
-#[derive(Clone, Copy)]
-struct Ends {
-    openings: usize,
-    points: usize,
-    marks: usize,
-    applies: usize,
-    finals: usize,
+fn push_bodies(table: &mut Output, dice: &mut Dice, style: Style, size: Size) {
+    let n = usize::from(size.states);
+    let k = usize::from(size.labels);
+    push_openings(table, dice, n, k);
+    push_rows(table, dice, style, n, k);
+    push_rows(table, dice, style, n, 1);
+    push_rows(table, dice, style, n, n);
+    push_finals(table, dice, n);
 }
 
-fn put_bodies(file: &mut [u8], desk: &mut [u64], style: Style, n: usize, k: usize) -> Ends {
-    let openings = put_row(file, desk, Style::Any, n, 0, k, 29);
-    let points = put_rows(file, desk, style, n, k, openings);
-    let marks = put_rows(file, desk, style, n, 1, points);
-    let applies = put_rows(file, desk, style, n, n, marks);
-    let finals = put_finals(file, desk, n, applies);
-    Ends {
-        openings: openings,
-        points: points,
-        marks: marks,
-        applies: applies,
-        finals: finals,
+fn push_pair(table: &mut Output, x: usize) {
+    table.push(low_byte(x));
+    table.push(low_byte(x / 256));
+}
+
+// The contents: of each body its kind, where it begins and how long it is.
+fn push_contents(table: &mut Output, size: Size) {
+    let mut from = 29usize;
+    for (kind, length) in size.lengths().into_iter().enumerate() {
+        table.push(low_byte(kind.saturating_add(1)));
+        push_pair(table, from);
+        push_pair(table, length);
+        from = from.saturating_add(length);
     }
 }
 
-fn put_contents(file: &mut [u8], ends: Ends) {
-    put_entry(file, 1, 29, ends.openings);
-    put_entry(file, 2, ends.openings, ends.points);
-    put_entry(file, 3, ends.points, ends.marks);
-    put_entry(file, 4, ends.marks, ends.applies);
-    put_entry(file, 5, ends.applies, ends.finals);
+// Makes a table at the front of a file. Answers its length.
+pub fn make_any(file: &mut [u8], dice: &mut Dice) -> usize {
+    let mut table = Output::new(file);
+    let style = Style::draw(dice);
+    let size = Size::draw(dice);
+    table.push(size.states);
+    table.push(size.labels);
+    table.push(low_byte(dice.draw(usize::from(size.states))));
+    table.push(5);
+    push_contents(&mut table, size);
+    push_bodies(&mut table, dice, style, size);
+    table.length
 }
 
-// Makes a table. Answers its length.
-fn make(file: &mut [u8], desk: &mut [u64], style: Style, n: usize, k: usize) -> usize {
-    put(file, 0, n);
-    put(file, 1, k);
-    put(file, 2, draw(desk, n));
-    put(file, 3, 5);
-    let ends = put_bodies(file, desk, style, n, k);
-    put_contents(file, ends);
-    ends.finals
-}
-
-fn draw_style(desk: &mut [u64]) -> Style {
-    match draw(desk, 4) {
-        0 => Style::Any,
-        1 => Style::Sink,
-        _ => Style::Rising,
-    }
-}
-
-// A table of one of some sizes: mostly small ones, and now and then those at the limits.
-pub fn make_any(file: &mut [u8], desk: &mut [u64]) -> usize {
-    let style = draw_style(desk);
-    let size = draw(desk, 20);
-    if size == 0 {
-        return make(file, desk, style, 64, 32);
-    }
-    if size == 1 {
-        return make(file, desk, style, 1, 1);
-    }
-    let n = between(desk, 2, 7);
-    let k = between(desk, 1, 3);
-    make(file, desk, style, n, k)
-}
-
-// Copies the table that stands at a place among others. Its length follows from the last contents entry.
-pub fn copy_table(given: &[u8], at: usize, file: &mut [u8]) -> usize {
-    let offset = pair(given, plus(at, 25));
-    let bytes = plus(offset, pair(given, plus(at, 27)));
-    let mut i = 0;
-    while i < bytes {
-        put(file, i, get(given, plus(at, i)));
-        i += 1;
-    }
+// Copies the first of some tables that stand one after the other to the front of a file. Its length, which is the answer, follows
+// from the last contents entry.
+pub fn copy_table(given: &[u8], file: &mut [u8]) -> usize {
+    let bytes = usize::from(pair(given, 25)) + usize::from(pair(given, 27));
+    copy(file, part(given, 0, bytes));
     bytes
 }

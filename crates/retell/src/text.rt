@@ -1,133 +1,74 @@
 // What stands where in a text, of which everything before the place that is asked about is in order.
+use crate::nesting::{self, Turn};
 use crate::seeking::{count, seek};
-use slices::{get, minus, plus};
+use slices::get;
 
-// "<", "/" and ">".
-pub const LESS: usize = 60;
-
-pub const SLASH: usize = 47;
-
-pub const GREATER: usize = 62;
-
-pub fn is_letter(byte: usize) -> bool {
-    match byte {
-        65..=90 => true,
-        97..=122 => true,
-        _ => false,
-    }
+pub fn is_letter(byte: u8) -> bool {
+    byte.is_ascii_alphabetic()
 }
 
 // A letter, a digit, "-", "." or "_".
-pub fn is_name_byte(byte: usize) -> bool {
-    match byte {
-        48..=57 => true,
-        45 | 46 | 95 => true,
-        _ => is_letter(byte),
-    }
+pub fn is_name_byte(byte: u8) -> bool {
+    byte.is_ascii_alphanumeric() || matches!(byte, b'-' | b'.' | b'_')
 }
 
-pub fn is_blank(byte: usize) -> bool {
-    match byte {
-        32 | 10 | 13 => true,
-        _ => false,
-    }
+pub fn is_blank(byte: u8) -> bool {
+    matches!(byte, b' ' | b'\n' | b'\r')
 }
 
-// Where the tag begins that a place is in; the place itself where it is in none.
-pub fn tag_of(text: &[u8], place: usize) -> usize {
-    let mut at = place;
-    while 0 < at {
-        at -= 1;
-        let byte = get(text, at);
-        if byte == LESS {
-            return at;
-        }
-        if byte == GREATER {
-            return place;
-        }
-    }
-    place
+// Where the tag begins that a place is in.
+pub fn tag_of(text: &[u8], place: usize) -> Option<usize> {
+    (0..place)
+        .rev()
+        .find(|at| matches!(get(text, *at), b'<' | b'>'))
+        .filter(|at| get(text, *at) == b'<')
 }
 
 // The first ">" from a place on, or the text's end.
 pub fn tag_end(text: &[u8], from: usize) -> usize {
-    seek(text, from, GREATER)
+    seek(text, from, b'>')
 }
 
-// Which tag begins at a place.
-#[derive(Clone, Copy)]
+#[derive(Clone, Copy, PartialEq, Eq)]
 pub enum Form {
-    Nothing,
     Opening,
     Closing,
     Empty,
 }
 
-pub fn form_at(text: &[u8], at: usize) -> Form {
-    if get(text, at) != LESS {
-        return Form::Nothing;
+// Which tag begins at a place, if one does.
+pub fn form_at(text: &[u8], at: usize) -> Option<Form> {
+    if get(text, at) != b'<' {
+        return None;
     }
-    if get(text, plus(at, 1)) == SLASH {
-        return Form::Closing;
+    if get(text, at.saturating_add(1)) == b'/' {
+        return Some(Form::Closing);
     }
-    if get(text, minus(tag_end(text, at), 1)) == SLASH {
-        return Form::Empty;
+    if get(text, tag_end(text, at).saturating_sub(1)) == b'/' {
+        return Some(Form::Empty);
     }
-    Form::Opening
+    Some(Form::Opening)
 }
 
-pub fn is_opening(text: &[u8], at: usize) -> bool {
+fn turn_at(text: &[u8], at: usize) -> Turn {
     match form_at(text, at) {
-        Form::Opening => true,
-        _ => false,
-    }
-}
-
-pub fn is_closing(text: &[u8], at: usize) -> bool {
-    match form_at(text, at) {
-        Form::Closing => true,
-        _ => false,
-    }
-}
-
-// Where so many elements are open before a tag: how many are after it.
-fn open_after(text: &[u8], at: usize, open: usize) -> usize {
-    match form_at(text, at) {
-        Form::Opening => plus(open, 1),
-        Form::Closing => minus(open, 1),
-        _ => open,
+        Some(Form::Opening) => Turn::Opens,
+        Some(Form::Closing) => Turn::Closes,
+        _ => Turn::Neither,
     }
 }
 
 // How many elements are open at a place.
 pub fn depth(text: &[u8], place: usize) -> usize {
-    let mut open = 0;
-    let mut at = 0;
-    while at < place {
-        open = open_after(text, at, open);
-        at += 1;
-    }
-    open
+    nesting::depth(place, |at| turn_at(text, at))
 }
 
-// The opening tag of the element that is open at a place: the last with one element fewer open before it. The place itself
-// where none is open.
-pub fn open_tag(text: &[u8], place: usize) -> usize {
-    let level = depth(text, place);
-    let mut found = place;
-    let mut open = 0;
-    let mut at = 0;
-    while at < place {
-        if (plus(open, 1) == level) & is_opening(text, at) {
-            found = at;
-        }
-        open = open_after(text, at, open);
-        at += 1;
-    }
-    found
+// The opening tag of the element that is open at a place.
+pub fn open_tag(text: &[u8], place: usize) -> Option<usize> {
+    nesting::opened(place, |at| turn_at(text, at))
 }
 
 // How many tags begin before a place.
 pub fn tags_before(text: &[u8], place: usize) -> usize {
-    count(text, place, LESS)
+    count(text, place, b'<')
 }

@@ -1,220 +1,148 @@
 // The writer: each place of the stream is judged by itself, the tags are laid out once without memory to see how many have room,
 // and then once more.
-use crate::list::{is_good, lines, put_name};
-use crate::reading::{LABELLED, Told, says};
-use crate::text::{GREATER, LESS, SLASH};
-use slices::{get, minus, part, plus, put};
+use crate::event::Event;
+use crate::names::{is_good, lines, name_of};
+use crate::nesting::{self, Turn};
+use crate::refusal::{Fault, Refusal};
+use slices::{Output, get, part};
 
-const CLOSE: usize = 64;
-
-const END: usize = 65;
-
-// A labelled close.
-pub fn is_labelled(event: usize) -> bool {
-    match event {
-        66..=97 => true,
-        _ => false,
+fn turn_at(events: &[u8], at: usize) -> Turn {
+    match Event::from(get(events, at)) {
+        Event::Open(_) => Turn::Opens,
+        Event::Close(_) => Turn::Closes,
+        _ => Turn::Neither,
     }
 }
 
-fn is_close(event: usize) -> bool {
-    (event == CLOSE) | is_labelled(event)
+// How many elements are open after some events.
+fn depth(events: &[u8]) -> usize {
+    nesting::depth(events.len(), |at| turn_at(events, at))
 }
 
-// Where so many elements are open before an event: how many are after it.
-fn open_after(event: usize, open: usize) -> usize {
-    if event < 32 {
-        plus(open, 1)
-    } else if is_close(event) {
-        minus(open, 1)
-    } else {
-        open
-    }
+// The label of the element that is open after some events.
+pub fn open_label(events: &[u8]) -> Option<u8> {
+    let opened = nesting::opened(events.len(), |at| turn_at(events, at));
+    opened.map(|at| get(events, at))
 }
 
-// How many elements are open at a place.
-fn depth(events: &[u8], place: usize) -> usize {
-    let mut open = 0;
-    let mut at = 0;
-    while at < place {
-        open = open_after(get(events, at), open);
-        at += 1;
-    }
-    open
-}
-
-// The label of the element that is open at a place: of the last that was opened with one fewer open. 0 where none is open.
-pub fn open_label(events: &[u8], place: usize) -> usize {
-    let level = depth(events, place);
-    let mut label = 0;
-    let mut open = 0;
-    let mut at = 0;
-    while at < place {
-        let event = get(events, at);
-        if (plus(open, 1) == level) & (event < 32) {
-            label = event;
-        }
-        open = open_after(event, open);
-        at += 1;
-    }
-    label
+// The events before a place.
+fn before(events: &[u8], at: usize) -> &[u8] {
+    part(events, 0, at)
 }
 
 // The label of the tag that an event is written as: its own, and of a close without one that of the open element.
-pub fn label_at(events: &[u8], at: usize) -> usize {
-    let event = get(events, at);
-    if event < CLOSE {
-        event % 32
-    } else if is_labelled(event) {
-        minus(event, LABELLED)
-    } else {
-        open_label(events, at)
+pub fn label_at(events: &[u8], at: usize) -> u8 {
+    match Event::from(get(events, at)) {
+        Event::Open(label) | Event::Point(label) | Event::Close(Some(label)) => label,
+        _ => open_label(before(events, at)).unwrap_or(0),
     }
 }
 
-// The event before a place is an end.
-fn is_after_end(events: &[u8], at: usize) -> bool {
-    if at == 0 {
-        return false;
-    }
-    get(events, at - 1) == END
+fn has_ended(events: &[u8]) -> bool {
+    events.ends_with(&[u8::from(Event::End)])
 }
 
-// A close stands at a place where nothing is open, or with another label than the open element's.
-fn closes_wrong(events: &[u8], at: usize) -> bool {
-    let event = get(events, at);
-    let none = depth(events, at) == 0;
-    let other = label_at(events, at) != open_label(events, at);
-    is_close(event) & (none | other)
-}
-
-// No whole stream goes on with the event at a place.
+// A stream cannot go on with the event at a place. A close needs an open element, of the label that it names.
 fn is_stuck(names: &[u8], events: &[u8], at: usize) -> bool {
-    let event = get(events, at);
-    let open = depth(events, at);
-    let unknown = (END < event) & !is_labelled(event);
-    let nameless = (event < CLOSE) & (lines(names) <= event % 32);
-    let deep = (event < 32) & (40 <= open);
-    let early = (event == END) & (open != 0);
-    is_after_end(events, at) | unknown | nameless | deep | closes_wrong(events, at) | early
+    let behind = before(events, at);
+    let wrong = match Event::from(get(events, at)) {
+        Event::Open(label) => lines(names) <= usize::from(label) || 40 <= depth(behind),
+        Event::Point(label) => lines(names) <= usize::from(label),
+        Event::Close(_) => open_label(behind) != Some(label_at(events, at)),
+        Event::End => depth(behind) != 0,
+        Event::Unknown(_) => true,
+    };
+    wrong || has_ended(behind)
 }
 
-fn first_stuck(names: &[u8], events: &[u8]) -> Told {
-    let mut at = 0;
-    while at < events.len() {
-        if is_stuck(names, events, at) {
-            return says(2, at);
-        }
-        at += 1;
+// The first place at which a stream cannot go on, or its end, where it has not ended.
+fn first_stuck(names: &[u8], events: &[u8]) -> Option<usize> {
+    let stuck = (0..events.len()).find(|at| is_stuck(names, events, *at));
+    if stuck.is_none() && !has_ended(events) {
+        return Some(events.len());
     }
-    if is_after_end(events, at) {
-        return says(0, 0);
-    }
-    says(2, at)
+    stuck
 }
 
-// A byte at a place of the text, where it is asked for. Answers the place after it.
-fn put_if(asked: bool, text: &mut [u8], to: usize, byte: usize) -> usize {
-    if asked {
-        put(text, to, byte);
-        return plus(to, 1);
+// The tag of an event, with the name of a label; an end and a byte of no meaning have none.
+pub fn spell(names: &[u8], event: Event, label: u8, text: &mut Output) {
+    if matches!(event, Event::End | Event::Unknown(_)) {
+        return;
     }
-    to
+    text.push(b'<');
+    if matches!(event, Event::Close(_)) {
+        text.push(b'/');
+    }
+    text.extend(name_of(names, label));
+    if matches!(event, Event::Point(_)) {
+        text.push(b'/');
+    }
+    text.push(b'>');
 }
 
-// The tag of an event, with the name of a label, at a place of the text; an end and a byte of no meaning have none. Answers the
-// place after it.
-pub fn spell(names: &[u8], event: usize, label: usize, text: &mut [u8], to: usize) -> usize {
-    if (END <= event) & !is_labelled(event) {
-        return to;
-    }
-    let begun = put_if(true, text, to, LESS);
-    let from = put_if(is_close(event), text, begun, SLASH);
-    let named = put_name(names, label, text, from);
-    let ended = put_if((32 <= event) & (event < CLOSE), text, named, SLASH);
-    put_if(true, text, ended, GREATER)
+// The tag of the event at a place.
+fn spell_at(names: &[u8], events: &[u8], at: usize, text: &mut Output) {
+    let event = Event::from(get(events, at));
+    spell(names, event, label_at(events, at), text);
 }
 
-// The tags of all events from the front of the text. Answers their length.
-fn spell_all(names: &[u8], events: &[u8], text: &mut [u8]) -> usize {
-    let mut to = 0;
-    let mut at = 0;
-    while at < events.len() {
-        to = spell(names, get(events, at), label_at(events, at), text, to);
-        at += 1;
+// The tags of all events.
+fn spell_all(names: &[u8], events: &[u8], text: &mut Output) {
+    for at in 0..events.len() {
+        spell_at(names, events, at, text);
     }
-    to
 }
 
 // How many events have tags that stand in so much room, one after the other.
 fn fitting(names: &[u8], events: &[u8], room: usize) -> usize {
-    let mut nowhere = [0u8; 1];
-    let mut fits = 0;
-    let mut to = 0;
-    let mut at = 0;
-    while at < events.len() {
-        to = spell(
-            names,
-            get(events, at),
-            label_at(events, at),
-            &mut nowhere,
-            to,
-        );
-        fits = plus(fits, (to <= room) as usize);
-        at += 1;
+    let mut nowhere = [0; 1];
+    let mut text = Output::new(&mut nowhere);
+    for at in 0..events.len() {
+        spell_at(names, events, at, &mut text);
+        if room < text.length {
+            return at;
+        }
     }
-    fits
+    events.len()
 }
 
-pub fn write(names: &[u8], events: &[u8], out: &mut [u8]) -> Told {
+// Writes the tags of a whole stream, and says how many bytes they have.
+pub fn write(names: &[u8], events: &[u8], out: &mut [u8]) -> Result<usize, Refusal> {
     if !is_good(names) {
-        return says(1, 0);
+        return Err(Refusal::Names);
     }
-    let found = first_stuck(names, events);
-    if found.kind != 0 {
-        return found;
+    if let Some(place) = first_stuck(names, events) {
+        return Err(Refusal::At(Fault::Byte, place));
     }
     if fitting(names, events, out.len()) < events.len() {
-        return says(3, 0);
+        return Err(Refusal::Room);
     }
-    says(0, spell_all(names, events, out))
+    let mut text = Output::new(out);
+    spell_all(names, events, &mut text);
+    Ok(text.length)
 }
 
 // The tags of a stream as far as it goes: up to the first event that no whole stream goes on with, or whose tag has no room.
-// Answers that event's place with the reader's number for a byte or for no room, or with 0 how many events there are.
-pub fn write_on(names: &[u8], events: &[u8], out: &mut [u8]) -> Told {
-    let found = first_stuck(names, events);
-    let end = if found.kind == 0 {
-        events.len()
-    } else {
-        found.place
-    };
-    let fits = fitting(names, part(events, 0, end), out.len());
-    spell_all(names, part(events, 0, fits), out);
+// Answers how many events there are, or that event's place.
+pub fn write_on(names: &[u8], events: &[u8], out: &mut [u8]) -> Result<usize, Refusal> {
+    let end = first_stuck(names, events).unwrap_or(events.len());
+    let fits = fitting(names, before(events, end), out.len());
+    spell_all(names, before(events, fits), &mut Output::new(out));
     if fits < end {
-        return says(7, fits);
+        return Err(Refusal::At(Fault::Short, fits));
     }
     if end < events.len() {
-        return says(2, end);
+        return Err(Refusal::At(Fault::Byte, end));
     }
-    says(0, end)
+    Ok(end)
 }
 
-// The event that the tag of the one at a place is read as: a close is labelled.
-fn labelled_at(events: &[u8], at: usize) -> usize {
-    let event = get(events, at);
-    if event == CLOSE {
-        plus(LABELLED, open_label(events, at))
-    } else {
-        event
-    }
-}
-
-// A whole stream with each close labelled, as it is read back from its tags, from the front of the output.
-pub fn label_closes(events: &[u8], out: &mut [u8]) {
-    let mut at = 0;
-    while at < events.len() {
-        put(out, at, labelled_at(events, at));
-        at += 1;
+// A whole stream with each close labelled, as it is read back from its tags.
+pub fn label_closes(events: &[u8], out: &mut Output) {
+    for (at, byte) in events.iter().enumerate() {
+        match Event::from(*byte) {
+            Event::Close(_) => out.push(u8::from(Event::Close(Some(label_at(events, at))))),
+            _ => out.push(*byte),
+        }
     }
 }

@@ -6,19 +6,19 @@
 // hedge can take to which is found by saturation over all pairs. The label that opened a level is found by going back in the
 // stream. Files are judged byte by byte and memories word by word, each from the last to the first.
 //
-// Its memory is lent: a book of 11,264 bytes, of which `events` says what stands where, and a word for each of 64 states. Nothing
-// is assumed of a caller. What is out of reach reads as 0, and is not written.
+// Nothing is assumed of a caller. What is out of reach reads as 0, and is not written.
 #![tactic(auto)]
 
-mod events;
+mod book;
+mod evaluator;
+mod event;
 mod file;
-mod levels;
 mod order;
 mod reach;
+mod refusal;
 mod run;
 
-pub use events::{Said, Seen, begin, follow, forget};
-pub use file::{Found, file_refusal, labels, states, unfold};
-pub use levels::step_levels;
-pub use order::{Claim, call_refusal, start_refusal};
-pub use reach::saturate;
+pub use evaluator::Evaluator;
+pub use event::{Event, step_levels};
+pub use order::{Call, Claim, start_refusal};
+pub use refusal::Refusal;

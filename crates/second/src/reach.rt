@@ -1,96 +1,111 @@
-// Which state some hedge takes to which: reach has a word for each state q, in which bit p says that some hedge, of points
-// and whole trees, takes q to p.
-use crate::file::{OPENINGS, POINTS, place};
-use slices::{get, plus, put_word, word};
+// Which state some hedge, of points and whole trees, takes to which.
+use crate::book::Book;
+use slices::get;
 
-pub fn has(set: u64, p: usize) -> bool {
-    if p < 64 { (set >> p) % 2 == 1 } else { false }
+// A set of states: bit p for state p.
+#[derive(Clone, Copy, Default, PartialEq, Eq)]
+pub struct States {
+    bits: u64,
 }
 
-fn with(set: u64, p: usize) -> u64 {
-    if p < 64 { set | (1 << p) } else { set }
-}
-
-// The set with every state to which a point takes p.
-fn with_points(book: &[u8], p: usize, k: usize, set: u64) -> u64 {
-    let mut grown = set;
-    let mut a = 0;
-    while a < k {
-        grown = with(grown, get(book, place(p, plus(POINTS, a))));
-        a += 1;
+impl States {
+    pub fn has(self, p: usize) -> bool {
+        p < 64 && (self.bits >> p) % 2 == 1
     }
-    grown
-}
 
-// The set with every state to which a whole tree takes p.
-fn with_trees(book: &[u8], p: usize, trees: u64, set: u64) -> u64 {
-    let mut grown = set;
-    let mut r = 0;
-    while r < 64 {
-        if has(trees, r) {
-            grown = with(grown, get(book, place(p, r)));
+    fn one(p: usize) -> States {
+        States {
+            bits: if p < 64 { 1 << p } else { 0 },
         }
-        r += 1;
     }
-    grown
-}
 
-// The set with whatever one more point or tree takes its states to.
-fn grown(book: &[u8], k: usize, trees: u64, set: u64) -> u64 {
-    let mut next = set;
-    let mut p = 0;
-    while p < 64 {
-        if has(set, p) {
-            next = with_trees(book, p, trees, with_points(book, p, k, next));
+    pub fn or(mut self, other: States) -> States {
+        self.bits |= other.bits;
+        self
+    }
+
+    // All that its states lead to.
+    pub fn lead_to<F: Fn(usize) -> States>(self, ends: F) -> States
+        requires { F.IsAlwaysCallable ends }
+    {
+        let mut all = States::default();
+        for p in 0..64 {
+            if self.has(p) {
+                all = all.or(ends(p));
+            }
         }
-        p += 1;
+        all
     }
-    next
 }
 
-// The last states of trees, as far as they are found.
-fn tree_ends(book: &[u8], k: usize, reach: &[u64]) -> u64 {
-    let mut ends = 0;
-    let mut a = 0;
-    while a < k {
-        ends = ends | word(reach, get(book, place(a, OPENINGS)));
-        a += 1;
+// For each state those that some hedge takes it to.
+#[derive(Drop)]
+pub struct Reach {
+    ends: [States; 64],
+}
+
+impl Reach {
+    // All pairs, of a table of n states and k labels. There are at most 64 times 64 to find, one or more a turn.
+    pub fn of(book: &Book, n: usize, k: usize) -> Reach {
+        let mut reach = Reach {
+            ends: [States::default(); 64],
+        };
+        reach.add_empty();
+        for _ in 0..4097 {
+            if !reach.add_pairs(book, n, k) {
+                break;
+            }
+        }
+        reach
+    }
+
+    pub fn ends_from(&self, q: usize) -> States {
+        get(&self.ends, q)
+    }
+
+    // Each state is reached by the empty hedge.
+    fn add_empty(&mut self) {
+        for (q, ends) in self.ends.iter_mut().enumerate() {
+            *ends = States::one(q);
+        }
+    }
+
+    // The last states of trees, as far as they are found.
+    fn tree_ends(&self, book: &Book, k: usize) -> States {
+        let mut ends = States::default();
+        for a in 0..k {
+            ends = ends.or(self.ends_from(book.opening(a)));
+        }
+        ends
+    }
+
+    // Every pair that is one point or tree further. Answers whether one was new.
+    fn add_pairs(&mut self, book: &Book, n: usize, k: usize) -> bool {
+        let trees = self.tree_ends(book, k);
+        let mut is_new = false;
+        for ends in self.ends.iter_mut().take(n) {
+            let next = grown(book, k, trees, *ends);
+            is_new = is_new || next != *ends;
+            *ends = next;
+        }
+        is_new
+    }
+}
+
+// The states to which a point takes p.
+fn point_ends(book: &Book, p: usize, k: usize) -> States {
+    let mut ends = States::default();
+    for a in 0..k {
+        ends = ends.or(States::one(book.point(p, a)));
     }
     ends
 }
 
-// Every pair that is one point or tree further. Answers whether one was new.
-fn add_pairs(book: &[u8], n: usize, k: usize, reach: &mut [u64]) -> bool {
-    let trees = tree_ends(book, k, reach);
-    let mut is_new = false;
-    let mut q = 0;
-    while q < n {
-        let found = word(reach, q);
-        let next = grown(book, k, trees, found);
-        put_word(reach, q, next);
-        is_new = is_new | (next != found);
-        q += 1;
-    }
-    is_new
-}
-
-// Each state is reached by the empty hedge.
-fn add_empty(reach: &mut [u64]) {
-    let mut q = 0;
-    while q < reach.len() {
-        put_word(reach, q, with(0, q));
-        q += 1;
-    }
-}
-
-// All pairs. There are at most 64 times 64 to find, one or more a turn.
-pub fn saturate(book: &[u8], n: usize, k: usize, reach: &mut [u64]) {
-    add_empty(reach);
-    let mut turns = 4097u64;
-    while 0 < turns {
-        turns -= 1;
-        if !add_pairs(book, n, k, reach) {
-            turns = 0;
-        }
-    }
+// The set with whatever one more point, or tree that ends in one of some states, takes its states to.
+fn grown(book: &Book, k: usize, trees: States, set: States) -> States {
+    let further = set.lead_to(|p| {
+        let by_tree = trees.lead_to(|r| States::one(book.apply(p, r)));
+        by_tree.or(point_ends(book, p, k))
+    });
+    set.or(further)
 }

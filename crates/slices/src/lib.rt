@@ -1,111 +1,92 @@
-// Slices read, written and compared where they reach, and numbers that do not go over: what the second evaluator and the trial
-// are written with, so that they are safe on any input. Nothing is assumed of a caller.
+// Slices read and written where they reach, also one element after the other: what the second evaluators and the trials are
+// written with, so that they are safe on any input. Nothing is assumed of a caller.
 #![tactic(auto)]
 
-ghost use Rattle.std.specs.Prelude.{◌<◌, ◌≤◌};
-
-// A byte, or 0 beyond the end.
-pub fn get(s: &[u8], at: usize) -> usize
-    ensures small { result < 256 }
-{
-    if at < s.len() { s[at] as usize } else { 0 }
+// An element, or beyond the end what stands for none, as 0 among numbers.
+pub fn get<T: Copy + Default>(s: &[T], at: usize) -> T {
+    s.get(at).copied().unwrap_or_default()
 }
 
-// Sets a byte, where there is one.
-pub fn put(s: &mut [u8], at: usize, x: usize) {
-    if at < s.len() {
-        s[at] = (x % 256) as u8;
-    }
-}
-
-// Two bytes as a number, the low one first.
-pub fn pair(s: &[u8], at: usize) -> usize {
-    get(s, at) + 256 * get(s, plus(at, 1))
-}
-
-// A word, or 0 beyond the end.
-pub fn word(s: &[u64], at: usize) -> u64 {
-    if at < s.len() { s[at] } else { 0 }
-}
-
-// Sets a word, where there is one.
-pub fn put_word(s: &mut [u64], at: usize, x: u64) {
+// Sets an element, where there is one.
+pub fn put<T: Copy>(s: &mut [T], at: usize, x: T) {
     if at < s.len() {
         s[at] = x;
     }
 }
 
-// The sum; it is never taken of numbers that are too large for one.
-pub fn plus(a: usize, b: usize) -> usize {
-    if a <= usize::MAX - b { a + b } else { a }
+// Copies as many elements as both slices have.
+pub fn copy<T: Copy>(to: &mut [T], from: &[T]) {
+    let count = to.len().min(from.len());
+    to[..count].copy_from_slice(&from[..count]);
 }
 
-// The difference, or 0 where it would be below.
-pub fn minus(a: usize, b: usize) -> usize
-    ensures bounded { result ≤ a }
-{
-    if b <= a { a - b } else { 0 }
+// One more is counted.
+pub fn add_one(count: &mut u64) {
+    *count = count.saturating_add(1);
 }
 
-fn at_most(x: usize, limit: usize) -> usize
-    ensures bounded { result ≤ limit }
-{
-    if x < limit { x } else { limit }
+// A line of a table of refusals: the first that applies is the one that falls.
+pub fn refuse_if<E: Copy>(applies: bool, why: E) -> Result<(), E> {
+    if applies { Err(why) } else { Ok(()) }
 }
 
-// The first bytes of a slice, or all of it.
-pub fn front_bytes(s: &mut [u8], count: usize) -> &mut [u8] {
-    let end = at_most(count, s.len());
-    &mut s[..end]
+// The last byte of a number.
+pub fn low_byte(x: usize) -> u8 {
+    (x % 256) as u8
 }
 
-// The bytes of a slice from a place on, or none of it.
-pub fn back_bytes(s: &mut [u8], from: usize) -> &mut [u8] {
-    let start = at_most(from, s.len());
-    &mut s[start..]
+// Two bytes as a number, the low one first.
+pub fn pair(s: &[u8], at: usize) -> u16 {
+    let low = get(s, at);
+    let high = get(s, at.saturating_add(1));
+    u16::from_le_bytes([low, high])
 }
 
-// The bytes of a slice from one place to another, as far as there are.
-pub fn part(s: &[u8], from: usize, to: usize) -> &[u8] {
-    let end = at_most(to, s.len());
-    let start = at_most(from, end);
+// The elements from one place to another, as far as there are.
+pub fn part<T>(s: &[T], from: usize, to: usize) -> &[T] {
+    let end = to.min(s.len());
+    let start = from.min(end);
     &s[start..end]
 }
 
-// The first reports of a slice, or all of it.
-pub fn front_reports(s: &mut [u32], count: usize) -> &mut [u32] {
-    let end = at_most(count, s.len());
+// The first elements, or all.
+pub fn front<T>(s: &mut [T], count: usize) -> &mut [T] {
+    let end = count.min(s.len());
     &mut s[..end]
 }
 
-// The same of words.
-pub fn front_words(s: &mut [u64], count: usize) -> &mut [u64] {
-    let end = at_most(count, s.len());
-    &mut s[..end]
+// The elements from a place on, or none.
+pub fn back<T>(s: &mut [T], from: usize) -> &mut [T] {
+    let start = from.min(s.len());
+    &mut s[start..]
 }
 
-// The words of the first slice stand at the front of the other.
-pub fn same(a: &[u64], b: &[u64]) -> bool {
-    let mut alike = a.len() <= b.len();
-    let mut i = 0;
-    while i < a.len() {
-        if word(a, i) != word(b, i) {
-            alike = false;
-        }
-        i += 1;
-    }
-    alike
+// Elements that are written one after the other, from the front of a slice on. Those for which it has no room are counted, and
+// not written.
+#[derive(Drop)]
+pub struct Output<'a, T = u8> {
+    pub room: &'a mut [T],
+    pub length: usize,
 }
 
-// Two slices hold the same bytes.
-pub fn same_bytes(a: &[u8], b: &[u8]) -> bool {
-    let mut alike = a.len() == b.len();
-    let mut i = 0;
-    while i < a.len() {
-        if get(a, i) != get(b, i) {
-            alike = false;
-        }
-        i += 1;
+impl<'a, T: Copy> Output<'a, T> {
+    pub fn new(room: &'a mut [T]) -> Output<'a, T> {
+        Output { room, length: 0 }
     }
-    alike
+
+    pub fn push(&mut self, x: T) {
+        put(self.room, self.length, x);
+        self.length = self.length.saturating_add(1);
+    }
+
+    pub fn extend(&mut self, xs: &[T]) {
+        for x in xs {
+            self.push(*x);
+        }
+    }
+
+    // What is written.
+    pub fn written(&self) -> &[T] {
+        part(self.room, 0, self.length)
+    }
 }

@@ -8,12 +8,11 @@
 #![tactic(auto)]
 
 ghost use Rattle.std.specs.Prelude.{◌≤◌};
-ghost use Rattle.bodies.specs.Sound.{Sound};
-ghost use Rattle.meaning.specs.Table.{table_of};
+ghost use Rattle.bodies.specs.Automaton.{automaton};
 
 use std::fmt;
 use std::io::Print;
-use table::Reading;
+use table::{Refusal, Table};
 
 // The tables that are tried.
 #[derive(Clone, Copy)]
@@ -111,13 +110,13 @@ const TRIES: [Try; 41] = [
 
 // What `read` answers of a file.
 #[derive(Clone, Copy)]
-struct Answer(Reading);
+struct Answer(Result<(u64, u64), Refusal>);
 
 impl fmt::Display for Answer {
     fn fmt<W: fmt::Write>(&self, f: &mut fmt::Formatter<W>) -> fmt::Result {
         match self.0 {
-            Reading::Taken(n, k) => write!(f, "taken {n} {k}"),
-            Reading::Refused(why) if why.part() > 0 => {
+            Ok((n, k)) => write!(f, "taken {n} {k}"),
+            Err(why) if why.part() > 0 => {
                 write!(
                     f,
                     "refused {} place {} {}",
@@ -126,7 +125,7 @@ impl fmt::Display for Answer {
                     why.inside()
                 )
             }
-            Reading::Refused(why) => write!(f, "refused {}", why.number()),
+            Err(why) => write!(f, "refused {}", why.number()),
         }
     }
 }
@@ -147,11 +146,10 @@ fn try_table(rt: &impl Print, tried: Try) {
 }
 
 // T, acc(1), the sets at the start, and down of the first three states, over W's sets at the start.
-fn show(rt: &impl Print, table: &[u8])
-    requires sound { Sound table.now }
-    requires bound { 3 ≤ (table_of table.now).states }
+fn show(rt: &impl Print, table: &Table)
+    requires { 3 ≤ (automaton table.now).states }
 {
-    let n = table::states(table);
+    let n = table.states();
     let trees = sets::trees(table);
     let accs = sets::accs(table, trees);
     let _ = println!(rt;
@@ -173,9 +171,9 @@ fn show(rt: &impl Print, table: &[u8])
 fn judge(rt: &impl Print, file: &[u8]) {
     let answer = table::read(file);
     let _ = println!(rt; "standard input: {}", Answer(answer));
-    if let Reading::Taken(n, _) = answer {
+    if let Ok((n, _)) = answer {
         if 3 <= n {
-            show(rt, file);
+            show(rt, &Table { file });
         }
     }
 }

@@ -12,12 +12,26 @@ mod compare;
 mod feeding;
 mod putting;
 mod runs;
+mod sides;
 mod tally;
 
+use making::Dice;
+use tally::Tally;
+
+// What the trial draws with, and what it counts.
+#[derive(Drop)]
+struct Desk {
+    dice: Dice,
+    tally: Tally,
+}
+
 fn main(rt: HostRuntime) {
-    let mut desk = [0u64; 40];
-    desk[making::SEED] = 88172645463325252;
+    let mut desk = Desk {
+        dice: Dice::new(88172645463325252),
+        tally: Tally::default(),
+    };
     runs::try_every_byte(&mut desk);
     runs::try_lists(&mut desk);
-    tally::say_all(&rt, &desk);
+    let tally = &desk.tally;
+    let _ = println!(rt; "{tally}");
 }

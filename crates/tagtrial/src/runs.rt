@@ -1,108 +1,85 @@
 // What is tried: each byte value at each place of a small text, list and stream, and lists, texts and streams that are drawn.
-use crate::{compare, tally};
+use crate::{Desk, compare};
 use drafts::{lists, streams, texts};
-use slices::{part, put};
+use slices::{Output, add_one, put};
 
-// The byte stands at a place of the text, or of the list behind it.
-fn put_changed(text: &mut [u8], names: &mut [u8], at: usize, byte: usize) {
-    lists::put_bytes(text, 0, b"<ab><cd/> </ab>");
-    lists::put_bytes(names, 0, b"ab\ncd\n");
-    if at < 15 {
-        put(text, at, byte);
-    } else {
-        put(names, at - 15, byte);
+// Each byte value at each place of the text, and then of the list.
+fn try_changed_texts(desk: &mut Desk) {
+    let text = *b"<ab><cd/> </ab>";
+    let names = *b"ab\ncd\n";
+    for at in 0..text.len() {
+        for byte in 0..=255 {
+            let mut changed = text;
+            put(&mut changed, at, byte);
+            compare::try_text(&names, &changed, desk);
+        }
     }
-}
-
-fn try_changed_text(desk: &mut [u64], at: usize, byte: usize) {
-    let mut text = [0u8; 15];
-    let mut names = [0u8; 6];
-    put_changed(&mut text, &mut names, at, byte);
-    tally::add(desk, tally::LISTS, (15 <= at) as u64);
-    compare::try_text(&names, &text, desk);
+    for at in 0..names.len() {
+        for byte in 0..=255 {
+            let mut changed = names;
+            put(&mut changed, at, byte);
+            add_one(&mut desk.tally.lists);
+            compare::try_text(&changed, &text, desk);
+        }
+    }
 }
 
 // The stream has both closes: a labelled one, and one without a label.
-fn try_changed_stream(desk: &mut [u64], at: usize, byte: usize) {
-    let mut events = [0u8; 6];
-    lists::put_bytes(&mut events, 0, b"\0\x01!C@A");
-    put(&mut events, at, byte);
-    compare::try_stream(b"ab\ncd\n", &events, desk);
-}
-
-// The places of the text, then those of the list, then those of the stream.
-fn try_changed(desk: &mut [u64], at: usize, byte: usize) {
-    if at < 21 {
-        try_changed_text(desk, at, byte);
-    } else {
-        try_changed_stream(desk, at - 21, byte);
+fn try_changed_streams(desk: &mut Desk) {
+    let events = *b"\0\x01!C@A";
+    for at in 0..events.len() {
+        for byte in 0..=255 {
+            let mut changed = events;
+            put(&mut changed, at, byte);
+            compare::try_stream(b"ab\ncd\n", &changed, desk);
+        }
     }
 }
 
-// Each byte value at a place.
-fn try_bytes_at(desk: &mut [u64], at: usize) {
-    let mut byte = 0;
-    while byte < 256 {
-        try_changed(desk, at, byte);
-        byte += 1;
-    }
+pub fn try_every_byte(desk: &mut Desk) {
+    try_changed_texts(desk);
+    try_changed_streams(desk);
 }
 
-pub fn try_every_byte(desk: &mut [u64]) {
-    let mut at = 0;
-    while at < 27 {
-        try_bytes_at(desk, at);
-        at += 1;
-    }
+// Draws a stream, and damages one of so many.
+fn make_stream(names: &[u8], events: &mut Output, desk: &mut Desk, of: usize) {
+    streams::make(events, &mut desk.dice, retell::lines(names) % 33);
+    streams::harm(events, &mut desk.dice, of);
 }
 
-// Draws a stream, and damages one of so many. Answers its length.
-fn make_stream(names: &[u8], events: &mut [u8], desk: &mut [u64], of: usize) -> usize {
-    let count = streams::make(events, desk, retell::lines(names) % 33);
-    streams::harm(events, count, desk, of)
+fn try_text(names: &[u8], desk: &mut Desk) {
+    let mut bytes = [0; 512];
+    let mut events = Output::new(&mut bytes);
+    make_stream(names, &mut events, desk, 5);
+    let mut bytes = [0; 4096];
+    let mut text = Output::new(&mut bytes);
+    texts::make(names, events.written(), &mut text, &mut desk.dice);
+    texts::harm(&mut text, &mut desk.dice);
+    compare::try_text(names, text.written(), desk);
 }
 
-// A text of a stream that is drawn.
-fn make_text(names: &[u8], text: &mut [u8], desk: &mut [u64]) -> usize {
-    let mut events = [0u8; 512];
-    let count = make_stream(names, &mut events, desk, 5);
-    texts::make(names, part(&events, 0, count), text, desk)
-}
-
-fn try_text(names: &[u8], desk: &mut [u64]) {
-    let mut text = [0u8; 4096];
-    let length = make_text(names, &mut text, desk);
-    let harmed = texts::harm(&mut text, length, desk);
-    compare::try_text(names, part(&text, 0, harmed), desk);
-}
-
-fn try_stream(names: &[u8], desk: &mut [u64]) {
-    let mut events = [0u8; 512];
-    let count = make_stream(names, &mut events, desk, 2);
-    compare::try_stream(names, part(&events, 0, count), desk);
+fn try_stream(names: &[u8], desk: &mut Desk) {
+    let mut bytes = [0; 512];
+    let mut events = Output::new(&mut bytes);
+    make_stream(names, &mut events, desk, 2);
+    compare::try_stream(names, events.written(), desk);
 }
 
 // Some texts and streams over a list, or one of each where it is bad.
-fn try_over(names: &[u8], desk: &mut [u64]) {
-    let mut left = if retell::is_good(names) { 8u64 } else { 1 };
-    while 0 < left {
-        left -= 1;
+fn try_list(desk: &mut Desk) {
+    let mut bytes = [0; 1024];
+    let mut names = Output::new(&mut bytes);
+    lists::make(&mut names, &mut desk.dice);
+    add_one(&mut desk.tally.lists);
+    let names = names.written();
+    for _ in 0..if retell::is_good(names) { 8 } else { 1 } {
         try_text(names, desk);
         try_stream(names, desk);
     }
 }
 
-fn try_list(desk: &mut [u64]) {
-    let mut names = [0u8; 1024];
-    let length = lists::make(&mut names, desk);
-    tally::add(desk, tally::LISTS, 1);
-    try_over(part(&names, 0, length), desk);
-}
-
-pub fn try_lists(desk: &mut [u64]) {
-    let mut i = 0u64;
-    while i < 400 {
+pub fn try_lists(desk: &mut Desk) {
+    for _ in 0..400 {
         try_list(desk);
-        i += 1;
     }
 }

@@ -1,105 +1,123 @@
-// What was compared, in words of the desk: at 0 to 7 the texts of each kind of answer, at 8 to 11 the streams of each kind; then
-// lists, texts, pieces, streams, streams read back, streams in two pieces, streams that came back with a close labelled that was
-// not, streams that cannot go on at a labelled close, and what differed. From 22 on stands for each kind the furthest place.
-use slices::{plus, put_word, word};
-use std::io::Print;
+// What was compared.
+use crate::sides::Outcome;
+use retell::{Fault, Refusal};
+use slices::add_one;
+use std::fmt;
 
-// Where the kinds of streams begin.
-pub const WRITTEN: usize = 8;
+// How often a fault came, and its furthest place.
+#[derive(Clone, Copy, Default)]
+struct Count {
+    times: u64,
+    furthest: usize,
+}
 
-pub const LISTS: usize = 12;
-
-pub const TEXTS: usize = 13;
-
-pub const PIECES: usize = 14;
-
-pub const STREAMS: usize = 15;
-
-pub const AGAIN: usize = 16;
-
-pub const PUT: usize = 17;
-
-pub const BACK_LABELLED: usize = 18;
-
-pub const AT_LABELLED: usize = 19;
-
-pub const DIFFERED: usize = 20;
-
-// The seed stands between.
-const FURTHEST: usize = 22;
-
-pub fn add(desk: &mut [u64], at: usize, more: u64) {
-    let before = word(desk, at);
-    if before <= u64::MAX - more {
-        put_word(desk, at, before + more);
+impl Count {
+    fn note(&mut self, place: usize) {
+        self.times = self.times.saturating_add(1);
+        self.furthest = self.furthest.max(place);
     }
 }
 
-// How something went.
-pub fn check(desk: &mut [u64], alike: bool) {
-    add(desk, DIFFERED, !alike as u64);
-}
-
-fn raise(desk: &mut [u64], at: usize, x: u64) {
-    if word(desk, at) < x {
-        put_word(desk, at, x);
+impl fmt::Display for Count {
+    fn fmt<W: fmt::Write>(&self, f: &mut fmt::Formatter<W>) -> fmt::Result {
+        let times = self.times;
+        let furthest = self.furthest;
+        write!(f, "{times}, the furthest at {furthest}")
     }
 }
 
-// One answer more of a kind and place, and how it went.
-pub fn note(desk: &mut [u64], kind: usize, place: usize, alike: bool) {
-    add(desk, kind, 1);
-    raise(desk, plus(FURTHEST, kind), place as u64);
-    check(desk, alike);
+#[derive(Default, Drop)]
+pub struct Tally {
+    pub lists: u64,
+    pub pieces: u64,
+    // Streams in two pieces, and those read back; of these, those with a close labelled that was not.
+    pub put: u64,
+    pub again: u64,
+    pub back_labelled: u64,
+    // Streams that cannot go on at a labelled close.
+    pub at_labelled: u64,
+    texts: u64,
+    texts_taken: u64,
+    texts_nameless: u64,
+    byte: Count,
+    unknown: Count,
+    closing: Count,
+    ended: Count,
+    deep: Count,
+    short: Count,
+    streams: u64,
+    streams_taken: u64,
+    streams_nameless: u64,
+    stuck: Count,
+    roomless: u64,
+    differed: u64,
 }
 
-fn say(rt: &impl Print, words: &str, x: u64) {
-    let _ = println!(rt; "{words}{x}");
+impl Tally {
+    // How something went.
+    pub fn check(&mut self, alike: bool) {
+        if !alike {
+            add_one(&mut self.differed);
+        }
+    }
+
+    fn count_of(&mut self, fault: Fault) -> &mut Count {
+        match fault {
+            Fault::Byte => &mut self.byte,
+            Fault::Unknown => &mut self.unknown,
+            Fault::Closing => &mut self.closing,
+            Fault::Ended => &mut self.ended,
+            Fault::Deep => &mut self.deep,
+            Fault::Short => &mut self.short,
+        }
+    }
+
+    // A text that was read.
+    pub fn note_text(&mut self, outcome: Outcome) {
+        add_one(&mut self.texts);
+        match outcome.must {
+            Ok(_) => add_one(&mut self.texts_taken),
+            Err(Refusal::At(fault, place)) => self.count_of(fault).note(place),
+            Err(Refusal::Names | Refusal::Room) => add_one(&mut self.texts_nameless),
+        }
+        self.check(outcome.alike);
+    }
+
+    // A stream that was written.
+    pub fn note_stream(&mut self, outcome: Outcome) {
+        add_one(&mut self.streams);
+        match outcome.must {
+            Ok(_) => add_one(&mut self.streams_taken),
+            Err(Refusal::Names) => add_one(&mut self.streams_nameless),
+            Err(Refusal::At(_, place)) => self.stuck.note(place),
+            Err(Refusal::Room) => add_one(&mut self.roomless),
+        }
+        self.check(outcome.alike);
+    }
 }
 
-// How often a kind came, and its furthest place.
-fn say_kind(rt: &impl Print, desk: &[u64], words: &str, kind: usize) {
-    let count = word(desk, kind);
-    let furthest = word(desk, plus(FURTHEST, kind));
-    let _ = println!(rt; "{words}{count}, the furthest at {furthest}");
-}
-
-fn say_readings(rt: &impl Print, desk: &[u64]) {
-    say(rt, "texts with bad names ", word(desk, 1));
-    say_kind(rt, desk, "byte not allowed ", 2);
-    say_kind(rt, desk, "name unknown ", 3);
-    say_kind(rt, desk, "closing name ", 4);
-    say_kind(rt, desk, "text ends ", 5);
-    say_kind(rt, desk, "deep ", 6);
-    say_kind(rt, desk, "output short ", 7);
-}
-
-fn say_writings(rt: &impl Print, desk: &[u64]) {
-    say(rt, "streams taken ", word(desk, WRITTEN));
-    say(rt, "streams with bad names ", word(desk, 9));
-    say_kind(rt, desk, "cannot go on ", 10);
-    say(rt, "of these at a labelled close ", word(desk, AT_LABELLED));
-    say(rt, "text short ", word(desk, 11));
-}
-
-fn say_counts(rt: &impl Print, desk: &[u64]) {
-    say(rt, "name lists ", word(desk, LISTS));
-    say(rt, "texts ", word(desk, TEXTS));
-    say(rt, "pieces ", word(desk, PIECES));
-    say(rt, "streams ", word(desk, STREAMS));
-    say(rt, "in two pieces ", word(desk, PUT));
-    say(rt, "read back ", word(desk, AGAIN));
-    say(
-        rt,
-        "of these with closes labelled ",
-        word(desk, BACK_LABELLED),
-    );
-    say(rt, "texts taken ", word(desk, 0));
-}
-
-pub fn say_all(rt: &impl Print, desk: &[u64]) {
-    say_counts(rt, desk);
-    say_readings(rt, desk);
-    say_writings(rt, desk);
-    say(rt, "differed ", word(desk, DIFFERED));
+impl fmt::Display for Tally {
+    fn fmt<W: fmt::Write>(&self, f: &mut fmt::Formatter<W>) -> fmt::Result {
+        writeln!(f, "name lists {}", self.lists)?;
+        writeln!(f, "texts {}", self.texts)?;
+        writeln!(f, "pieces {}", self.pieces)?;
+        writeln!(f, "streams {}", self.streams)?;
+        writeln!(f, "in two pieces {}", self.put)?;
+        writeln!(f, "read back {}", self.again)?;
+        writeln!(f, "of these with closes labelled {}", self.back_labelled)?;
+        writeln!(f, "texts taken {}", self.texts_taken)?;
+        writeln!(f, "texts with bad names {}", self.texts_nameless)?;
+        writeln!(f, "byte not allowed {}", self.byte)?;
+        writeln!(f, "name unknown {}", self.unknown)?;
+        writeln!(f, "closing name {}", self.closing)?;
+        writeln!(f, "text ends {}", self.ended)?;
+        writeln!(f, "deep {}", self.deep)?;
+        writeln!(f, "output short {}", self.short)?;
+        writeln!(f, "streams taken {}", self.streams_taken)?;
+        writeln!(f, "streams with bad names {}", self.streams_nameless)?;
+        writeln!(f, "cannot go on {}", self.stuck)?;
+        writeln!(f, "of these at a labelled close {}", self.at_labelled)?;
+        writeln!(f, "text short {}", self.roomless)?;
+        write!(f, "differed {}", self.differed)
+    }
 }

@@ -8,16 +8,30 @@
 #![tactic(auto)]
 
 mod damage;
-mod events;
-mod lent_memory;
+mod lent;
+mod streams;
 mod tally;
+mod told;
+
+use making::Dice;
+use tally::Tally;
+
+// What the trial draws with, and what it counts.
+#[derive(Drop)]
+struct Desk {
+    dice: Dice,
+    tally: Tally,
+}
 
 fn main(rt: HostRuntime) {
     let mut given = [0u8; 16384];
     let bytes = pipes::read_full(&mut rt.stdin(), &mut given);
-    let mut desk = [0u64; 26];
-    desk[making::SEED] = 88172645463325252;
-    events::try_given(&given[..bytes], &mut desk);
-    events::try_made(&mut desk);
-    tally::say_all(&rt, &desk);
+    let mut desk = Desk {
+        dice: Dice::new(88172645463325252),
+        tally: Tally::default(),
+    };
+    streams::try_given(&given[..bytes], &mut desk);
+    streams::try_made(&mut desk);
+    let tally = &desk.tally;
+    let _ = println!(rt; "{tally}");
 }

@@ -1,80 +1,80 @@
-// What was compared, in words of the desk: at 0 to 16 the refusals of each number (0: taken), of starts, events and damaged
-// calls together; then tables, starts, events, reports, what differed, damaged calls, and of starts and of damaged calls how
-// many were refused 3 or 5, whose places in the file were compared.
-use slices::{put_word, word};
-use std::io::Print;
+// What was compared.
+use crate::told::Told;
+use slices::add_one;
+use std::fmt;
 
-pub const TABLES: usize = 17;
+#[derive(Clone, Copy)]
+pub enum Call {
+    Start,
+    Event,
+    Damaged,
+}
 
-pub const STARTS: usize = 18;
+#[derive(Default, Drop)]
+pub struct Tally {
+    pub tables: u64,
+    starts: u64,
+    events: u64,
+    damaged: u64,
+    pub reports: u64,
+    taken: u64,
+    // How often each number was refused, 1 first.
+    refused: [u64; 16],
+    // How many starts, and how many other calls, were refused 3 or 5, whose places in the file were compared.
+    start_places: u64,
+    damaged_places: u64,
+    differed: u64,
+}
 
-pub const EVENTS: usize = 19;
+impl Tally {
+    pub fn check(&mut self, alike: bool) {
+        if !alike {
+            add_one(&mut self.differed);
+        }
+    }
 
-pub const REPORTS: usize = 20;
+    fn add_refusal(&mut self, call: Call, number: u64) {
+        if number == 3 || number == 5 {
+            match call {
+                Call::Start => add_one(&mut self.start_places),
+                Call::Event | Call::Damaged => add_one(&mut self.damaged_places),
+            }
+        }
+        for (other, count) in (1..).zip(self.refused.iter_mut()) {
+            if other == number {
+                add_one(count);
+            }
+        }
+    }
 
-// The seed stands between.
-pub const DIFFERED: usize = 22;
-
-pub const DAMAGED: usize = 23;
-
-const START_PLACES: usize = 24;
-
-const DAMAGED_PLACES: usize = 25;
-
-pub fn add(desk: &mut [u64], at: usize, more: u64) {
-    let before = word(desk, at);
-    if before <= u64::MAX - more {
-        put_word(desk, at, before + more);
+    // One comparison more, what the watch answered, and how it went.
+    pub fn note(&mut self, call: Call, said: Result<u64, Told>, alike: bool) {
+        match call {
+            Call::Start => add_one(&mut self.starts),
+            Call::Event => add_one(&mut self.events),
+            Call::Damaged => add_one(&mut self.damaged),
+        }
+        match said {
+            Ok(_) => add_one(&mut self.taken),
+            Err(told) => self.add_refusal(call, told.number),
+        }
+        self.check(alike);
     }
 }
 
-// Where the places of a kind are counted.
-fn places_of(kind: usize) -> usize {
-    if kind == STARTS {
-        START_PLACES
-    } else {
-        DAMAGED_PLACES
+impl fmt::Display for Tally {
+    fn fmt<W: fmt::Write>(&self, f: &mut fmt::Formatter<W>) -> fmt::Result {
+        writeln!(f, "tables {}", self.tables)?;
+        writeln!(f, "starts {}", self.starts)?;
+        writeln!(f, "events {}", self.events)?;
+        writeln!(f, "damaged calls {}", self.damaged)?;
+        writeln!(f, "reports {}", self.reports)?;
+        writeln!(f, "taken {}", self.taken)?;
+        for (number, count) in (1..).zip(self.refused.iter()) {
+            writeln!(f, "refused {number}: {count}")?;
+        }
+        writeln!(f, "places of starts {}", self.start_places)?;
+        writeln!(f, "places of damaged calls {}", self.damaged_places)?;
+        write!(f, "differed {}", self.differed)
     }
-}
-
-fn note_number(desk: &mut [u64], kind: usize, number: u64) {
-    let has_place = (number == 3) | (number == 5);
-    add(desk, places_of(kind), has_place as u64);
-    add(desk, (number % 17) as usize, 1);
-}
-
-// One comparison more of a kind, and how it went.
-pub fn note(desk: &mut [u64], kind: usize, number: u64, alike: bool) {
-    add(desk, kind, 1);
-    note_number(desk, kind, number);
-    add(desk, DIFFERED, !alike as u64);
-}
-
-fn say(rt: &impl Print, words: &str, x: u64) {
-    let _ = println!(rt; "{words}{x}");
-}
-
-fn say_refusal(rt: &impl Print, number: usize, x: u64) {
-    let _ = println!(rt; "refused {number}: {x}");
-}
-
-fn say_refusals(rt: &impl Print, desk: &[u64]) {
-    let mut i = 1;
-    while i < 17 {
-        say_refusal(rt, i, word(desk, i));
-        i += 1;
-    }
-}
-
-pub fn say_all(rt: &impl Print, desk: &[u64]) {
-    say(rt, "tables ", word(desk, TABLES));
-    say(rt, "starts ", word(desk, STARTS));
-    say(rt, "events ", word(desk, EVENTS));
-    say(rt, "damaged calls ", word(desk, DAMAGED));
-    say(rt, "reports ", word(desk, REPORTS));
-    say(rt, "taken ", word(desk, 0));
-    say_refusals(rt, desk);
-    say(rt, "places of starts ", word(desk, START_PLACES));
-    say(rt, "places of damaged calls ", word(desk, DAMAGED_PLACES));
-    say(rt, "differed ", word(desk, DIFFERED));
 }

@@ -6,7 +6,7 @@
 // input's end.
 #![tactic(auto)]
 
-use engine::{Outcome, Record, Refusal};
+use engine::{Record, Refusal};
 use pipes::{BLOCK, End, Filter, Output};
 use std::fmt::{self, Write};
 use std::ops::ControlFlow;
@@ -92,11 +92,11 @@ impl Watch<'_> {
         let answer = engine::event(self.table, self.record, self.work, &mut self.reports, byte);
         self.record = answer.next;
         match answer.outcome {
-            Outcome::Refused(why) => {
+            Err(why) => {
                 put_refusal(out, why, event);
                 ControlFlow::Break(())
             }
-            Outcome::Taken(count) => {
+            Ok(count) => {
                 self.events = event;
                 self.put_reports(out, count);
                 if !self.record.finished {
@@ -137,11 +137,11 @@ fn watch_over(rt: &HostRuntime, table: &[u8]) {
     let _ = writeln!(out, "event verdict position");
     let answer = engine::start(table, 64, 40, &mut work);
     match answer.outcome {
-        Outcome::Refused(why) => {
+        Err(why) => {
             put_refusal(&mut out, why, 0);
             out.flush(rt);
         }
-        Outcome::Taken(_) => {
+        Ok(_) => {
             let mut watch = Watch {
                 table,
                 record: answer.next,

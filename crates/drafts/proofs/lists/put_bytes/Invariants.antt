@@ -1,7 +1,0 @@
--- `put_bytes` is safe and ends: each turn is one byte fewer.
-use Prim.Native.Nat.{◌-◌}
-use lib.ListN.{length}
-use Rattle.drafts.proofs.lists.put_bytes.Given as goal
-
-abbrev pub decreases-loop-i : goal.decreases-loop-i
-decreases-loop-i l = length l.bytes - l.i

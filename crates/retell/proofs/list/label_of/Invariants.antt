@@ -1,7 +1,0 @@
--- `label_of` is safe and ends: each turn is one place fewer.
-use Prim.Native.Nat.{◌-◌}
-use lib.ListN.{length}
-use Rattle.retell.proofs.list.label_of.Given as goal
-
-abbrev pub decreases-loop-at : goal.decreases-loop-at
-decreases-loop-at l = length l.names - l.at

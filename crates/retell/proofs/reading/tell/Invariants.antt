@@ -1,6 +1,0 @@
--- `tell` is safe and ends: each turn is one place fewer.
-use Prim.Native.Nat.{◌-◌}
-use Rattle.retell.proofs.reading.tell.Given as goal
-
-abbrev pub decreases-loop-at : goal.decreases-loop-at
-decreases-loop-at l = l.place - l.at

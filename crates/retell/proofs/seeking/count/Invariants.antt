@@ -1,6 +1,0 @@
--- `count` is safe and ends: each turn is one byte fewer.
-use Prim.Native.Nat.{◌-◌}
-use Rattle.retell.proofs.seeking.count.Given as goal
-
-abbrev pub decreases-loop-at : goal.decreases-loop-at
-decreases-loop-at l = l.place - l.at

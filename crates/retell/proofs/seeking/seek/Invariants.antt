@@ -1,7 +1,0 @@
--- `seek` is safe and ends: each turn is one byte fewer.
-use Prim.Native.Nat.{◌-◌}
-use lib.ListN.{length}
-use Rattle.retell.proofs.seeking.seek.Given as goal
-
-abbrev pub decreases-loop-at : goal.decreases-loop-at
-decreases-loop-at l = length l.bytes - l.at

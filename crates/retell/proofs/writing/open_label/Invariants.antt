@@ -1,6 +1,0 @@
--- `open_label` is safe and ends: each turn is one event fewer.
-use Prim.Native.Nat.{◌-◌}
-use Rattle.retell.proofs.writing.open_label.Given as goal
-
-abbrev pub decreases-loop-at : goal.decreases-loop-at
-decreases-loop-at l = l.place - l.at

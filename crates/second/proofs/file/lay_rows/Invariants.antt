@@ -1,6 +1,0 @@
--- `lay_rows` is safe and ends: each turn is one state fewer.
-use Prim.Native.Nat.{◌-◌}
-use Rattle.second.proofs.file.lay_rows.Given as goal
-
-abbrev pub decreases-loop-q : goal.decreases-loop-q
-decreases-loop-q l = l.n - l.q

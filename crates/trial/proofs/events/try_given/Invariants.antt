@@ -1,5 +1,0 @@
--- `try_given` is safe and ends: the turns are counted down.
-use Rattle.trial.proofs.events.try_given.Given as goal
-
-abbrev pub decreases-loop-left : goal.decreases-loop-left
-decreases-loop-left l = l.left
