@@ -1,4 +1,5 @@
 -- Blanks between tags change nothing that is read. Assumes nothing.
+use Rattle.std.proofs.Math.Nat.{sub-zero}
 use Rattle.std.proofs.Common.{Option, Some, None}
 use mathlib.Core.Path.{◌≡◌, refl, sym}
 use mathlib.Core.Bool.{true, cond}
@@ -13,7 +14,7 @@ use Rattle.grammar.specs.Names.{lines_of}
 use Rattle.grammar.specs.Tags.{Tag, Holds, Text, Begun}
 use Rattle.grammar.specs.Feeding.{goes_on, stepped, after, feed, Roomed, roomed}
 use Rattle.grammar.specs.Reading.{Place, fresh, read_step, read_fed, read_out}
-use Rattle.grammar.proofs.Feeding.{went, feed_on, feed_pieces, feed_then, after_none, none_less}
+use Rattle.grammar.proofs.Feeding.{went, feed_on, feed_pieces, feed_then, after_none}
 use Rattle.grammar.proofs.ReadingTags.{placed}
 use Rattle.grammar.proofs.Lexing.{tags_unique, nothing_begun}
 use Rattle.grammar.proofs.Refusing.{read_good, good_read}
@@ -26,7 +27,7 @@ same_tags h h' t =
 module _ (ns : List (List ℕ)) (room : ℕ) (b : ℕ) (blank : is_blank b ≡ true) where
   blank_step : (o : List ℕ) (l : ℕ) → roomed (read_step ns) (record { inner = placed Begun.nothing o; left = l }) b
       ≡ stepped (record { inner = placed Begun.nothing o; left = l }) []
-  blank_step o l = rw (blank, le-ltb l 0 (omega arith), none_less l)
+  blank_step o l = rw (blank, le-ltb l 0 (omega arith), sub-zero l)
 
   blank_after : (u v : List ℕ) {es o : List ℕ} {n l : ℕ} → read_fed ns room u ≡ went es n (record { inner = placed Begun.nothing o; left = l })
       → read_fed ns room (u ++ (b ∷ v)) ≡ after [] 1 (read_fed ns room (u ++ v))

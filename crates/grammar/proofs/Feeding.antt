@@ -1,4 +1,6 @@
 -- Laws of bytes fed step by step: in pieces as at once, and with room. Assumes nothing.
+use Rattle.std.proofs.Math.Nat.{sub-zero}
+use Rattle.std.proofs.Math.Numerals.{one-add}
 use Rattle.std.proofs.lemmas.Option.{none-some}
 use Rattle.std.proofs.Common.{Option, Some, None}
 use mathlib.Core.Path.{◌≡◌, refl, sym, ap, ◌∙◌}
@@ -58,9 +60,6 @@ broke out n a k = record { gives = out; taken = n; state = a; stops = Some k }
 pub no_fault : {P : Type 0} (k : Fault) → None ≡ Some k → P
 no_fault k e = absurd (none-some k e)
 
-pub one_more : (n : ℕ) → 1 + n ≡ suc n
-one_more n = omega arith
-
 module _ {A : Type 0} (step : A → ℕ → Step A) where
   pub feed_on : (a a' : A) (out : List ℕ) (b : ℕ) (s : List ℕ) → step a b ≡ stepped a' out
       → feed step a (b ∷ s) ≡ after out 1 (feed step a' s)
@@ -107,7 +106,7 @@ module _ {A : Type 0} (step : A → ℕ → Step A) where
           → feed step (step a b).next s
           ≡ went (feed step (step a b).next s).gives (length s) (feed step (step a b).next s).state)
           → feed step a (b ∷ s) ≡ went (feed step a (b ∷ s)).gives (suc (length s)) (feed step a (b ∷ s)).state
-      go None h ih = rw (h, ih (rw h at e), one_more (length s))
+      go None h ih = rw (h, ih (rw h at e), one-add (length s))
       go (Some k) h ih = no_fault k (sym (rw h at e))
 
   broken_later : (a : A) (b : ℕ) (s : List ℕ) (k : Fault) → (step a b).stops ≡ None → Broken step (step a b).next s k → Broken step a (b ∷ s) k
@@ -117,9 +116,9 @@ module _ {A : Type 0} (step : A → ℕ → Step A) where
         byte = i.byte;
         rest = i.rest;
         parts = ap (λ (u : List ℕ). b ∷ u) i.parts;
-        on = rw (h, i.on, one_more (length i.before));
+        on = rw (h, i.on, one-add (length i.before));
         at = rw h i.at;
-        place = rw (h, i.place, one_more (length i.before));
+        place = rw (h, i.place, one-add (length i.before));
       }
 
   pub where_broken : (a : A) (s : List ℕ) (k : Fault) → (feed step a s).stops ≡ Some k → Broken step a s k
@@ -157,14 +156,11 @@ module _ {A : Type 0} (step : A → ℕ → Step A) (a : A) (r b : ℕ) where
 rest_fits : (r : ℕ) (u v : List ℕ) → length (u ++ v) ≤ r → length v ≤ r - length u
 rest_fits r u v l = let h : length u + length v ≤ r = rw length-append at l in omega arith
 
-pub none_less : (r : ℕ) → r - 0 ≡ r
-none_less r = omega arith
-
 module _ {A : Type 0} (step : A → ℕ → Step A) where
   -- Where there is room for all that is given, room changes nothing.
   pub room_enough : (a : A) (r : ℕ) (s : List ℕ) → length (feed step a s).gives ≤ r
       → feed (roomed step) (record { inner = a; left = r }) s ≡ with_room r (feed step a s)
-  room_enough a r [] l = rw (none_less r)
+  room_enough a r [] l = rw (sub-zero r)
   room_enough a r (b ∷ s) l = go (step a b).stops refl (room_enough (step a b).next (r - length (step a b).gives) s)
     where
       first : length ((step a b).gives ++ (feed step (step a b).next s).gives) ≤ r → length (step a b).gives ≤ r
@@ -182,7 +178,7 @@ module _ {A : Type 0} (step : A → ℕ → Step A) where
       go None h ih =
           let m : length ((step a b).gives ++ (feed step (step a b).next s).gives) ≤ r = rw h at l in
           rw (roomed_fits step a r b h (first m), h, ih (rest_fits r (step a b).gives (feed step (step a b).next s).gives m), rest)
-      go (Some k) h ih = feed_stop (roomed step) (record { inner = a; left = r }) k b s (roomed_stop step a r b k h) ∙ rw (h, none_less r)
+      go (Some k) h ih = feed_stop (roomed step) (record { inner = a; left = r }) k b s (roomed_stop step a r b k h) ∙ rw (h, sub-zero r)
 
   -- Bytes that are all taken with room are taken without, and what they give fits.
   pub room_inner : (a : A) (r : ℕ) (s : List ℕ) → (feed (roomed step) (record { inner = a; left = r }) s).stops ≡ None

@@ -1,5 +1,6 @@
 -- Tags told apart with no regard to names and nesting, by a step that only collects them: what a text holds, it holds in
 -- one way. Assumes nothing.
+use Rattle.std.proofs.Math.Numerals.{one-add}
 use Rattle.std.proofs.Common.{Some, None}
 use mathlib.Core.Path.{◌≡◌, refl, sym, ap, ◌∙◌}
 use mathlib.Core.Bool.{true}
@@ -11,7 +12,7 @@ use Rattle.grammar.specs.Tags.{Tag, tag_text, Holds, Begun, begun_text, is_begun
 use Rattle.grammar.specs.Feeding.{Step, stopped, stepped, Fed, after, feed}
 use Rattle.grammar.specs.Reading.{Next, extend}
 use Rattle.grammar.specs.Faults.{Begins, Whole}
-use Rattle.grammar.proofs.Feeding.{went, feed_then, feed_break, went_then, one_more, no_fault}
+use Rattle.grammar.proofs.Feeding.{went, feed_then, feed_break, went_then, no_fault}
 use Rattle.grammar.proofs.Tagging.{begun_on, tag_on}
 
 -- The tag that is begun, and the tags before it.
@@ -36,7 +37,7 @@ collect_more ts q q' b e = rw e
 collects : {s : List ℕ} {ts : List Tag} (us : List Tag) → Holds s ts
     → feed collect (lexed Begun.nothing us) s ≡ went [] (length s) (lexed Begun.nothing (us ++ ts))
 collects us Holds.nothing = rw (append-nil us)
-collects us (Holds.blank {s = s} {b = b} e h) = rw (collect_more us Begun.nothing Begun.nothing b (rw e), collects us h, one_more (length s))
+collects us (Holds.blank {s = s} {b = b} e h) = rw (collect_more us Begun.nothing Begun.nothing b (rw e), collects us h, one-add (length s))
 collects us (Holds.tag {s = s} {ts = ts} {t = t} n h) =
     rw (
       went_then collect (lexed Begun.nothing us) (lexed Begun.nothing (us ++ (t ∷ []))) (lexed Begun.nothing ((us ++ (t ∷ [])) ++ ts)) [] []

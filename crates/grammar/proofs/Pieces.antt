@@ -11,13 +11,9 @@ use Rattle.grammar.specs.declared.Fault.{Fault}
 use Rattle.grammar.specs.Feeding.{Step, goes_on, Fed, feed}
 use Rattle.grammar.proofs.Feeding.{then, feed_pieces, all_taken}
 
--- A test cannot pass and fail, and fails where it cannot pass.
+-- A test cannot pass and fail.
 pub true_false : {b : Bool} → b ≡ true → b ≡ false → ⊥
 true_false e f = let z : ◌≡◌ {A = ℕ} 0 1 = cc in omega arith
-
-pub untrue : (b : Bool) → ¬ (b ≡ true) → b ≡ false
-untrue true n = absurd (n refl)
-untrue false n = refl
 
 pub on_none : (x : Option Fault) → goes_on x ≡ true → x ≡ None
 on_none None e = refl

@@ -1,4 +1,5 @@
 -- Reading and the grammar: what a text of tags leads to, and what a text was that was read. Assumes nothing.
+use Rattle.std.proofs.Math.Numerals.{one-add}
 use Rattle.std.proofs.Common.{None}
 use mathlib.Core.Path.{◌≡◌, refl, ◌∙◌}
 use mathlib.Core.Bool.{true}
@@ -9,7 +10,7 @@ use borrow.Author.Tests.{lt-ltb, eq-eqb}
 use Rattle.grammar.specs.Tags.{Tag, name_of, tag_text, Holds, Labels, Nested, Begun, begun_text, is_begun}
 use Rattle.grammar.specs.Feeding.{stepped, feed}
 use Rattle.grammar.specs.Reading.{Next, extend, Place, between, judge, judged, read_step}
-use Rattle.grammar.proofs.Feeding.{went, went_then, one_more}
+use Rattle.grammar.proofs.Feeding.{went, went_then}
 use Rattle.grammar.proofs.Tagging.{begun_on, tag_on}
 
 -- Texts and nestings, one after another
@@ -65,7 +66,7 @@ module _ (ns : List (List ℕ)) where
   pub read_tags : {s : List ℕ} {ts : List Tag} {o es o' : List ℕ} → Holds s ts → Nested ns o ts es o'
       → feed (read_step ns) (between o) s ≡ record { gives = es; taken = length s; state = between o'; stops = None }
   read_tags Holds.nothing Nested.nothing = refl
-  read_tags {o = o} (Holds.blank {s = s} {b = b} e h) n = rw (moves o Begun.nothing Begun.nothing b (rw e), read_tags h n, one_more (length s))
+  read_tags {o = o} (Holds.blank {s = s} {b = b} e h) n = rw (moves o Begun.nothing Begun.nothing b (rw e), read_tags h n, one-add (length s))
   read_tags {o = o} {o' = o'} (Holds.tag {s = s} {t = t} x h) n =
       let f = nested_first n in
       rw (

@@ -1,5 +1,6 @@
 -- The writer's steps take exactly the whole streams of depth at most 40, and go on exactly where such a stream does.
 -- Assumes of the names that the list is good.
+use Rattle.std.proofs.lemmas.Bool.{false_from_ne_true}
 use Rattle.std.proofs.Common.{Option, Some, None}
 use mathlib.Core.Path.{◌≡◌, refl, sym, ap, subst, ◌∙◌}
 use mathlib.Core.Bool.{true, false}
@@ -17,7 +18,7 @@ use Rattle.grammar.specs.Writing.{Written, unwritten, write_step, write_fed, who
 use Rattle.grammar.proofs.Feeding.{went, feed_break, where_broken}
 use Rattle.grammar.proofs.Names.{GoodList}
 use Rattle.grammar.proofs.Nesting.{opens_tagged}
-use Rattle.grammar.proofs.Pieces.{true_false, untrue, feed_taken, feed_front, feed_stops_at}
+use Rattle.grammar.proofs.Pieces.{true_false, feed_taken, feed_front, feed_stops_at}
 use Rattle.grammar.proofs.Writer.{write_whole}
 use Rattle.grammar.proofs.Wrote.{finished, opens_join, Wrote, taken_wrote}
 
@@ -120,8 +121,8 @@ module _ (ns : List (List ℕ)) (good : GoodList ns) where
   pub stuck_refused : {w : List ℕ} {i : ℕ} → Stuck (length ns) w i
       → (whole_stream (write_fed ns w) ≡ false) × ((write_fed ns w).taken ≡ i)
   stuck_refused (Stuck.byte {w = w} b v g n) =
-      let fails = untrue (goes_on (write_fed ns (w ++ (b ∷ []))).stops) (λ t. n (went_goes_on ns good (w ++ (b ∷ [])) t)) in
+      let fails = false_from_ne_true (goes_on (write_fed ns (w ++ (b ∷ []))).stops) (λ t. n (went_goes_on ns good (w ++ (b ∷ [])) t)) in
       let p = feed_stops_at (write_step ns) unwritten w b v (goes_on_went ns good w g) fails in
       (rw p.0, p.1)
   stuck_refused (Stuck.ending {w = w} g n) =
-      (untrue (whole_stream (write_fed ns w)) (λ t. n (whole_stream_lem ns good w t)), feed_taken (write_step ns) unwritten w (goes_on_went ns good w g))
+      (false_from_ne_true (whole_stream (write_fed ns w)) (λ t. n (whole_stream_lem ns good w t)), feed_taken (write_step ns) unwritten w (goes_on_went ns good w g))

@@ -1,4 +1,5 @@
 -- The text of a tag, fed to whatever takes a tag byte by byte: the reader, and what only collects tags. Assumes nothing.
+use Rattle.std.proofs.Math.Numerals.{one-add}
 use mathlib.Core.Path.{◌≡◌, refl}
 use mathlib.Core.Bool.{true, false}
 use mathlib.Core.List.{List, [], ◌∷◌, ◌++◌, append-nil, append_assoc}
@@ -11,7 +12,7 @@ use Rattle.grammar.specs.Names.{name_bytes, is_name}
 use Rattle.grammar.specs.Tags.{Tag, name_of, tag_text, Begun, begun_text, is_begun}
 use Rattle.grammar.specs.Feeding.{Step, stepped, feed}
 use Rattle.grammar.specs.Reading.{Next, extend}
-use Rattle.grammar.proofs.Feeding.{went, feed_on, went_then, one_more}
+use Rattle.grammar.proofs.Feeding.{went, feed_on, went_then}
 
 -- All of a tag but its ">".
 abbrev pub all_but : Tag → Begun
@@ -46,7 +47,7 @@ module _ {A S : Type 0} (step : S → ℕ → Step S) (at : Begun → A → S)
         feed_on step (at (c y) a) (at (c (y ++ (b ∷ []))) a) [] b x (moves a (c y) (c (y ++ (b ∷ []))) b (grows y b n.0)),
         name_on c grows a (y ++ (b ∷ [])) x n.1,
         append_assoc y (b ∷ []) x,
-        one_more (length x),
+        one-add (length x),
       )
 
   -- A name from its first letter on, after "<" or "</".
@@ -59,7 +60,7 @@ module _ {A S : Type 0} (step : S → ℕ → Step S) (at : Begun → A → S)
       rw (
         feed_on step (at q a) (at (c (b ∷ [])) a) [] b x (moves a q (c (b ∷ [])) b (begins b n.0)),
         name_on c grows a (b ∷ []) x n.1,
-        one_more (length x),
+        one-add (length x),
       )
 
   opening_on : (a : A) (x : List ℕ) → is_name x ≡ true
@@ -68,7 +69,7 @@ module _ {A S : Type 0} (step : S → ℕ → Step S) (at : Begun → A → S)
       rw (
         moves a Begun.nothing Begun.angle less refl,
         named_on Begun.opening (λ y b n. rw n) Begun.angle (λ b n. rw n) a x h,
-        one_more (length x),
+        one-add (length x),
       )
 
   -- What is begun, from where nothing is.
@@ -83,8 +84,8 @@ module _ {A S : Type 0} (step : S → ℕ → Step S) (at : Begun → A → S)
         moves a Begun.nothing Begun.angle less refl,
         moves a Begun.angle Begun.slashed slash refl,
         named_on Begun.closing (λ y b n. rw n) Begun.slashed (λ b n. rw n) a x h,
-        one_more (length x),
-        one_more (suc (length x)),
+        one-add (length x),
+        one-add (suc (length x)),
       )
   begun_on a (Begun.empty x) h =
       let n : suc (length x) + 1 ≡ suc (length (x ++ (slash ∷ []))) = rw length-append (omega arith) in

@@ -1,5 +1,6 @@
 -- Laws of the writer's steps: it writes events as the tags that give them, with a label at each close or without. Assumes of
 -- the names that the list is good.
+use Rattle.std.proofs.Math.Numerals.{one-add}
 use mathlib.Core.Path.{◌≡◌, refl, sym, ap, ◌∙◌}
 use mathlib.Core.List.{List, [], ◌∷◌, ◌++◌, append-nil}
 use Prim.Native.Nat.{ℕ, ◌+◌, ◌<◌}
@@ -11,7 +12,7 @@ use Rattle.grammar.specs.Tags.{Tag, tag_text, tags_text, Holds, Labels, Nested}
 use Rattle.grammar.specs.Streams.{labelled}
 use Rattle.grammar.specs.Feeding.{stepped, feed}
 use Rattle.grammar.specs.Writing.{after_tag, write_step}
-use Rattle.grammar.proofs.Feeding.{went, one_more, feed_then}
+use Rattle.grammar.proofs.Feeding.{went, feed_then}
 use Rattle.grammar.proofs.Names.{name_placed, GoodList}
 use Rattle.grammar.proofs.Labelling.{byte_opens, byte_points, byte_closes_its, labelled_length}
 use Rattle.grammar.proofs.Nesting.{small}
@@ -41,11 +42,11 @@ module _ (ns : List (List ℕ)) (good : GoodList ns) where
       → feed (write_step ns) (after_tag o) es ≡ went (tags_text ts) (length es) (after_tag o')
   nested_written Nested.nothing = refl
   nested_written {o} (Nested.opening {es = es} {a = a} l d n) =
-      rw (step_opens o a l.known d, label_name l, nested_written n, one_more (length es))
+      rw (step_opens o a l.known d, label_name l, nested_written n, one-add (length es))
   nested_written {o} (Nested.empty {es = es} {a = a} l n) =
-      rw (step_points o a l.known, label_name l, nested_written n, one_more (length es))
+      rw (step_points o a l.known, label_name l, nested_written n, one-add (length es))
   nested_written (Nested.closing {o = o} {es = es} {a = a} l n) =
-      rw (step_closes o a l.known, label_name l, nested_written n, one_more (length es))
+      rw (step_closes o a l.known, label_name l, nested_written n, one-add (length es))
 
   -- and so are events that come to it once their closes are labelled.
   pub write_tags : {o o' : List ℕ} {ts : List Tag} (es : List ℕ) → AllBelow 32 o → Nested ns o ts (labelled o es) o'

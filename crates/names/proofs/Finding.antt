@@ -1,8 +1,9 @@
 -- Laws of names in a list: two that are the same, the place of one, its label. Assumes nothing.
+use Rattle.grammar.proofs.Names.{same_equal}
 use Rattle.std.proofs.Common.{Option, Some, None}
 use mathlib.Core.Path.{◌≡◌, refl, sym, ap}
-use mathlib.Core.Bool.{Bool, true, false, cond, ◌&&◌, and_assoc, and-true, true≢false}
-use mathlib.Core.List.{List, [], ◌∷◌, ◌++◌, append-nil}
+use mathlib.Core.Bool.{Bool, true, false, cond, ◌&&◌, and_assoc, and-true}
+use mathlib.Core.List.{List, [], ◌∷◌, ◌++◌}
 use Prim.Native.Nat.{ℕ, suc, ◌+◌, ◌<◌}
 use native.Mathlib.Omega.{arith}
 use borrow.Author.Tests.{ltb-true, eqb-true, eqb-false, eq-eqb, ne_eqb, lt-ltb, le-ltb}
@@ -19,21 +20,10 @@ eqb_turned a b = go (eqb b a) refl
     go true e = eq-eqb a b (sym (eqb-true b a e))
     go false e = ne_eqb a b (λ q. eqb-false b a e (sym q))
 
-pub same_is : (x y : List ℕ) → same x y ≡ true → x ≡ y
-same_is [] [] e = refl
-same_is [] (c ∷ y) e = absurd (true≢false (sym e))
-same_is (b ∷ x) [] e = absurd (true≢false (sym e))
-same_is (b ∷ x) (c ∷ y) e =
-    let h = both_true (eqb b c) (same x y) e in
-    rw (eqb-true b c h.0, same_is x y h.1)
-
 -- What follows the same bytes is the same or not.
 pub same_after : (x s t : List ℕ) → same (x ++ s) (x ++ t) ≡ same s t
 same_after [] s t = refl
 same_after (b ∷ x) s t = rw (eq-eqb b b refl, same_after x s t)
-
-pub same_self : (x : List ℕ) → same x x ≡ true
-same_self x = rw (append-nil x) at (same_after x [] [])
 
 -- y is a beginning of x.
 abbrev pub begins : List ℕ → List ℕ → Bool
@@ -85,7 +75,7 @@ pub no_label : (ns : List (List ℕ)) (x : List ℕ) → named ns ≡ true → 1
 no_label ns x e long = rw (no_place ns e, le-ltb (length ns) (length ns) (omega arith))
   where
     differ : (y : List ℕ) (t : Bool) → same x y ≡ t → length y < 17 → same x y ≡ false
-    differ y true q short = absurd (omega (arith, ap length (same_is x y q)))
+    differ y true q short = absurd (omega (arith, ap length (same_equal x y q)))
     differ y false q short = q
 
     no_place : (ns : List (List ℕ)) → named ns ≡ true → place_of x ns ≡ length ns

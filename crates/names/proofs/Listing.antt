@@ -1,4 +1,5 @@
 -- The loop of `good` as a recursion over the rest of the list, and that it says whether the list is good. Assumes nothing.
+use Rattle.grammar.proofs.Names.{same_itself}
 use Rattle.std.proofs.Common.{Some, None}
 use mathlib.Core.Path.{◌≡◌, refl, sym, ap, ◌∙◌, subst}
 use mathlib.Core.Bool.{Bool, true, false, not, cond, ◌&&◌, and-false, and-true, and_assoc, and_comm}
@@ -16,7 +17,7 @@ use Rattle.meaning.proofs.Tests.{both_true}
 use Rattle.names.specs.declared.Word.{Word}
 use Rattle.names.specs.Words.{no_word, with_byte, known, labelled, goes_on_by, is_label, stands_at}
 use Rattle.names.proofs.Spelling.{Spells, length_more, spells_none, spells_more}
-use Rattle.names.proofs.Finding.{same_after, same_self}
+use Rattle.names.proofs.Finding.{same_after}
 use Rattle.names.proofs.Seeking.{label_of_short}
 
 -- The rest s of the list is good, where w stands before it on line l.
@@ -91,7 +92,7 @@ unfit_more s (a ∷ x) b e = unfit s a (x ++ (b ∷ [])) e
 found_first : (n : ℕ) (before : List (List ℕ)) (x : List ℕ) (after : List (List ℕ))
     → is_label (labelled (take n (before ++ (x ∷ after))) x) (length before) ≡ ltb (length before) n && eqb (place_of x (before ++ (x ∷ after))) (length before)
 found_first zero before x after = rw (leb-suc-zero (length before))
-found_first (suc n) [] x after = rw (same_self x, lt-ltb 0 (suc (length (take n after))) (omega arith), lt-ltb 0 (suc n) (omega arith))
+found_first (suc n) [] x after = rw (same_itself x, lt-ltb 0 (suc (length (take n after))) (omega arith), lt-ltb 0 (suc n) (omega arith))
 found_first (suc n) (y ∷ before) x after = go (same x y) refl (found_first n before x after)
   where
     one_on : (t : Bool) (p l : ℕ) → is_label (cond t (Some (suc p)) None) (suc l) ≡ is_label (cond t (Some p) None) l
