@@ -48,6 +48,7 @@ pub fn said_of(outcome: Outcome) -> Result<u64, Told> {
     }
 }
 
+// No From, since neither type is of this crate.
 pub fn claim_of(record: Record) -> Claim {
     Claim {
         rows: record.rows,
