@@ -5,4 +5,4 @@ mod dice;
 mod tables;
 
 pub use dice::Dice;
-pub use tables::{copy_table, make_any};
+pub use tables::{make_any, table_length};

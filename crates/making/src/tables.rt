@@ -1,6 +1,6 @@
 // Makes tables: bodies drawn in one of some styles, and the contents that they ask for.
 use crate::dice::Dice;
-use slices::{Output, copy, low_byte, pair, part};
+use slices::{Output, low_byte, pair};
 
 #[derive(Clone, Copy)]
 enum Style {
@@ -115,8 +115,8 @@ fn push_contents(table: &mut Output, size: Size) {
     }
 }
 
-// Makes a table at the front of a file. Answers its length.
-pub fn make_any(file: &mut [u8], dice: &mut Dice) -> usize {
+// Makes a table at the front of a file.
+pub fn make_any<'a>(file: &'a mut [u8], dice: &mut Dice) -> &'a mut [u8] {
     let mut table = Output::new(file);
     let style = Style::draw(dice);
     let size = Size::draw(dice);
@@ -126,13 +126,10 @@ pub fn make_any(file: &mut [u8], dice: &mut Dice) -> usize {
     table.push(5);
     push_contents(&mut table, size);
     push_bodies(&mut table, dice, style, size);
-    table.length
+    table.into_written()
 }
 
-// Copies the first of some tables that stand one after the other to the front of a file. Its length, which is the answer, follows
-// from the last contents entry.
-pub fn copy_table(given: &[u8], file: &mut [u8]) -> usize {
-    let bytes = usize::from(pair(given, 25)) + usize::from(pair(given, 27));
-    copy(file, part(given, 0, bytes));
-    bytes
+// The length of the first of some tables that stand one after the other, by its last contents entry.
+pub fn table_length(tables: &[u8]) -> usize {
+    usize::from(pair(tables, 25)) + usize::from(pair(tables, 27))
 }

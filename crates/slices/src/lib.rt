@@ -89,4 +89,10 @@ impl<'a, T: Copy> Output<'a, T> {
     pub fn written(&self) -> &[T] {
         part(self.room, 0, self.length)
     }
+
+    // The same, to be changed.
+    pub fn into_written(self) -> &'a mut [T] {
+        let Output { room, length } = self;
+        front(room, length)
+    }
 }

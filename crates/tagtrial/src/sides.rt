@@ -6,6 +6,7 @@ use slices::front;
 // How many events or bytes there are, or why there are none.
 pub type Said = Result<usize, Refusal>;
 
+// No From, here and below, since none of the types is of this crate.
 fn fault_of(fault: grammar::Fault) -> Fault {
     match fault {
         grammar::Fault::Byte => Fault::Byte,

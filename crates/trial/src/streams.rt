@@ -5,7 +5,7 @@ use crate::{Desk, damage, tally};
 use engine::Record;
 use making::Dice;
 use second::{Evaluator, Event};
-use slices::{Output, add_one, front, low_byte, part};
+use slices::{Output, add_one, copy, front, low_byte, part};
 
 // How a stream goes.
 #[derive(Clone, Copy)]
@@ -226,8 +226,8 @@ fn try_table(file: &mut [u8], streams: usize, desk: &mut Desk) {
 // A table that is made.
 fn try_one_made(desk: &mut Desk) {
     let mut file = [0; 6400];
-    let bytes = making::make_any(&mut file, &mut desk.dice);
-    try_table(front(&mut file, bytes), 3, desk);
+    let table = making::make_any(&mut file, &mut desk.dice);
+    try_table(table, 3, desk);
 }
 
 pub fn try_made(desk: &mut Desk) {
@@ -239,7 +239,8 @@ pub fn try_made(desk: &mut Desk) {
 // The first of the tables. Answers its length.
 fn try_one_given(tables: &[u8], desk: &mut Desk) -> usize {
     let mut file = [0; 6400];
-    let bytes = making::copy_table(tables, &mut file);
+    let bytes = making::table_length(tables);
+    copy(&mut file, part(tables, 0, bytes));
     try_table(front(&mut file, bytes), 20, desk);
     bytes
 }

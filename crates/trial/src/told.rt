@@ -45,6 +45,7 @@ pub fn said_of(outcome: Outcome) -> Result<u64, Told> {
     outcome.map_err(Told::from)
 }
 
+// No From, since neither type is of this crate.
 pub fn claim_of(record: Record) -> Claim {
     Claim {
         rows: record.rows,
