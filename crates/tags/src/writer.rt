@@ -168,7 +168,7 @@ pub fn spell(names: &[u8], scribe: Scribe, byte: u8) -> Option<Spelled>
     if scribe.ended {
         None
     } else {
-        event_step(names, scribe, answers::event_of(byte))
+        event_step(names, scribe, Event::from(byte))
     }
 }
 
