@@ -1,4 +1,4 @@
-// What an event byte means.
+// What an event byte means. `second` has an enum of its own: the two share no code, so that they don't share a misreading.
 
 #[derive(Clone, Copy, PartialEq, Eq)]
 pub enum Event {

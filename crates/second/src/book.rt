@@ -1,8 +1,8 @@
 // A table laid out, and behind it the stream that was taken.
 //
 // There is a line of 128 bytes for each of 64 states q: A(q,p) at p, P(q,a) at 64 + a, M(q) at 96, final at 97; and O(a) at 98
-// of line a. All stands in one run of bytes, since what the trial prints of bytes that are no table must not change: a state of
-// 64 or more reads as the stream's first byte, and a label of 32 or more as what stands further on.
+// of line a. It is one run of bytes, and no array for each body, since what `trial` prints may not change, of bytes that are no
+// table either: a state of 64 or more reads as the stream's first byte, and a label of 32 or more as what stands further on.
 use crate::file::{end_of, labels, states};
 use slices::{get, part, put};
 
@@ -15,6 +15,11 @@ const FINALS: usize = 97;
 const OPENINGS: usize = 98;
 
 const STREAM: usize = 8192;
+
+// The file from the end of a body on.
+fn behind(file: &[u8], body: u8) -> &[u8] {
+    part(file, end_of(file, body), file.len())
+}
 
 // The place of a column in a state's line.
 fn place(q: usize, column: usize) -> usize {
@@ -36,27 +41,27 @@ impl Book {
         let n = states(file);
         let k = labels(file);
         let mut book = Book { bytes: [0; 9216] };
-        book.lay(file, end_of(file, 0), k, OPENINGS, 128);
-        book.lay_rows(file, end_of(file, 1), k, n, POINTS);
-        book.lay(file, end_of(file, 2), n, MARKS, 128);
-        book.lay_rows(file, end_of(file, 3), n, n, 0);
-        book.lay(file, end_of(file, 4), n, FINALS, 128);
+        book.lay(behind(file, 0), k, OPENINGS, 128);
+        book.lay_rows(behind(file, 1), k, n, POINTS);
+        book.lay(behind(file, 2), n, MARKS, 128);
+        book.lay_rows(behind(file, 3), n, n, 0);
+        book.lay(behind(file, 4), n, FINALS, 128);
         book
     }
 
-    // Copies bytes of the file to places that lie apart by a stride.
-    fn lay(&mut self, file: &[u8], from: usize, count: usize, to: usize, stride: usize) {
+    // Copies so many bytes to places that lie apart by a stride.
+    fn lay(&mut self, bytes: &[u8], count: usize, to: usize, stride: usize) {
         for i in 0..count {
             let at = to.saturating_add(stride.saturating_mul(i));
-            put(&mut self.bytes, at, get(file, from.saturating_add(i)));
+            put(&mut self.bytes, at, get(bytes, i));
         }
     }
 
-    // Copies the rows of a body, each to its state's line.
-    fn lay_rows(&mut self, file: &[u8], from: usize, width: usize, n: usize, column: usize) {
-        for q in 0..n {
-            let row = from.saturating_add(width.saturating_mul(q));
-            self.lay(file, row, width, place(q, column), 1);
+    // Copies so many rows of a width, each to its state's line.
+    fn lay_rows(&mut self, bytes: &[u8], width: usize, rows: usize, column: usize) {
+        for q in 0..rows {
+            let row = part(bytes, width.saturating_mul(q), bytes.len());
+            self.lay(row, width, place(q, column), 1);
         }
     }
 

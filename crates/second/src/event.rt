@@ -1,4 +1,4 @@
-// What an event byte means.
+// What an event byte means. `retell` has an enum of its own: the two share no code, so that they don't share a misreading.
 use slices::put;
 
 #[derive(Clone, Copy, PartialEq, Eq)]
@@ -63,8 +63,8 @@ impl Event {
     }
 }
 
-// The words of the levels, level 1 first, as memory has them: 1 + the label where the level is open, and else 0. What they are
-// after an event that is taken at a depth, of words as they stand.
+// The words of the levels, level 1 first, as memory has them, whose layout may not change: 1 + the label where the level is open,
+// and else 0. What they are after an event that is taken at a depth, of words as they stand.
 pub fn step_levels(words: &mut [u64], depth: usize, byte: u8) {
     match Event::from(byte) {
         Event::Open(label) => put(words, depth, u64::from(label) + 1),
