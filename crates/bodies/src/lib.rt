@@ -1,7 +1,8 @@
 // A table file that can be stepped by, and the automaton's steps read off it: one method for each body.
 //
 // The file's bytes are themselves the table. The steps ask for states and labels below its n and k; each answers what
-// `automaton` says of the table.
+// `automaton` says of the table. That bound stays a clause, here and above: a state is a word of the file or of lent memory,
+// and a type for it would be undone at each step.
 #![tactic(auto)]
 
 ghost use Rattle.std.specs.Prelude.{◌≡◌, ◌+◌, ◌*◌, ◌<◌, length, get_or};

@@ -1,6 +1,7 @@
 // Where the bodies of a table file stand: computed here and nowhere else.
 //
-// The opening body begins at 29, after the header and the contents.
+// The opening body begins at 29, after the header and the contents. Bodies have numbers, from 0, and no enum: contents and
+// bodies are searched by that number, a refusal names it, and the definitions go over it.
 #![tactic(auto)]
 
 ghost use Rattle.std.specs.Prelude.{◌≡◌, ◌<◌, ◌≤◌};
