@@ -5,31 +5,35 @@ ghost use Rattle.pipes.specs.Counts.{IsPrefixLen};
 ghost use Rattle.pipes.specs.Outputs.{waiting};
 
 use crate::{Output, later, read_some};
+use std::fmt;
 use std::ops::ControlFlow;
 
 // Why a filter takes no more of its input.
 #[derive(Clone, Copy)]
-pub enum End {
+pub enum End<F> {
     // It has all that it waits for.
     Whole,
-    // What comes after so many bytes is at fault, in these words.
-    Fault(usize, &'static str),
+    // What comes after so many bytes is at fault.
+    Fault(usize, F),
 }
 
 // What a program between two pipes makes of its input.
 pub trait Filter {
+    // What can be at fault in its input.
+    type Fault: fmt::Display + Copy;
+
     // Takes the bytes that come next, and answers how many of them: all, or as many as there is room for what comes of them;
     // where nothing waits, one at least.
-    fn take(&mut self, bytes: &[u8], out: &mut Output) -> ControlFlow<End, usize>
+    fn take(&mut self, bytes: &[u8], out: &mut Output) -> ControlFlow<End<Self::Fault>, usize>
         ensures { MatchControlFlow result (λ taken. IsPrefixLen taken bytes.now) (λ _. ⊤) };
 
-    // Takes the end of the input. Where that is a fault, answers the words of it.
-    fn end(&mut self, out: &mut Output) -> Result<(), &'static str>;
+    // Takes the end of the input, which may be a fault.
+    fn end(&mut self, out: &mut Output) -> Result<(), Self::Fault>;
 }
 
-// "refused: WORDS, at PLACE", in one write, so that the lines of another program on the same terminal do not fall into it.
-fn tell(rt: &impl Eprint, words: &str, place: u64) {
-    let _ = eprintln!(rt; "refused: {words}, at {place}");
+// "refused: FAULT, at PLACE", in one write, so that the lines of another program on the same terminal do not fall into it.
+fn tell(rt: &impl Eprint, fault: impl fmt::Display + Copy, place: u64) {
+    let _ = eprintln!(rt; "refused: {fault}, at {place}");
 }
 
 // The handle, the filter, the output and the place go together through the next functions, and are no struct: with the
@@ -58,8 +62,8 @@ fn follow(
                 rest = &rest[taken..];
             }
             ControlFlow::Break(End::Whole) => return ControlFlow::Break(()),
-            ControlFlow::Break(End::Fault(taken, words)) => {
-                tell(rt, words, later(place, taken));
+            ControlFlow::Break(End::Fault(taken, fault)) => {
+                tell(rt, fault, later(place, taken));
                 return ControlFlow::Break(());
             }
         }
@@ -76,8 +80,8 @@ fn finish(rt: &HostRuntime, filter: &mut impl Filter, out: &mut Output, place: u
 {
     let last = filter.end(out);
     if out.flush(rt).is_continue() {
-        if let Err(words) = last {
-            tell(rt, words, place);
+        if let Err(fault) = last {
+            tell(rt, fault, place);
         }
     }
 }

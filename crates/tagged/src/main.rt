@@ -16,18 +16,6 @@ use tags::reader::Cursor;
 // One byte more than the longest good list of names has, so that a longer one is seen to be longer.
 const NAMES: usize = names::LONGEST + 1;
 
-// What is wrong. The output is as long as a block, so that it is never short.
-fn words(fault: Fault) -> &'static str {
-    match fault {
-        Fault::Byte => "byte not allowed",
-        Fault::Unknown => "name unknown",
-        Fault::Closing => "closing name not the open one or none open",
-        Fault::Ended => "text ends with a tag or element open",
-        Fault::Deep => "deeper than 40",
-        Fault::Short => "output short",
-    }
-}
-
 // How far the text is read.
 #[derive(Drop)]
 struct Reader<'a> {
@@ -35,25 +23,28 @@ struct Reader<'a> {
     cursor: Cursor,
 }
 
+// The output is as long as a block, so that it is never short.
 impl Filter for Reader<'_> {
-    fn take(&mut self, bytes: &[u8], out: &mut Output) -> ControlFlow<End, usize> {
+    type Fault = Fault;
+
+    fn take(&mut self, bytes: &[u8], out: &mut Output) -> ControlFlow<End<Fault>, usize> {
         let fed = tags::reader::feed(self.names, self.cursor, bytes, &mut out.room[out.filled..]);
         self.cursor = fed.next;
         out.filled += fed.given;
         match fed.stop {
             None => ControlFlow::Continue(bytes.len()),
-            Some(fault) => ControlFlow::Break(End::Fault(fed.taken, words(fault))),
+            Some(fault) => ControlFlow::Break(End::Fault(fed.taken, fault)),
         }
     }
 
     // Byte 65, where nothing is open.
-    fn end(&mut self, out: &mut Output) -> Result<(), &'static str> {
+    fn end(&mut self, out: &mut Output) -> Result<(), Fault> {
         match tags::reader::end(self.cursor, out.left()) {
             None => {
                 let _ = out.put(&[65]);
                 Ok(())
             }
-            Some(fault) => Err(words(fault)),
+            Some(fault) => Err(fault),
         }
     }
 }

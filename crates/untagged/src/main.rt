@@ -9,6 +9,7 @@
 
 use grammar::Fault;
 use pipes::{End, Filter, Output};
+use std::fmt;
 use std::ops::ControlFlow;
 use tags::writer::Scribe;
 
@@ -22,10 +23,15 @@ const BLOCK: usize = 4096;
 const TAGS: usize = 77824;
 
 // That no whole stream goes on. The output has room for a block's tags, so that it is never short.
-fn words(fault: Fault) -> &'static str {
-    match fault {
-        Fault::Short => "output short",
-        _ => "no whole stream goes on",
+#[derive(Clone, Copy)]
+struct Stuck(Fault);
+
+impl fmt::Display for Stuck {
+    fn fmt<W: fmt::Write>(&self, f: &mut fmt::Formatter<W>) -> fmt::Result {
+        match self.0 {
+            Fault::Short => write!(f, "output short"),
+            _ => write!(f, "no whole stream goes on"),
+        }
     }
 }
 
@@ -37,8 +43,10 @@ struct Writer<'a> {
 }
 
 impl Filter for Writer<'_> {
+    type Fault = Stuck;
+
     // What follows a taken 65 is no fault.
-    fn take(&mut self, bytes: &[u8], out: &mut Output) -> ControlFlow<End, usize> {
+    fn take(&mut self, bytes: &[u8], out: &mut Output) -> ControlFlow<End<Stuck>, usize> {
         let wrote = tags::writer::put_events(
             self.names,
             self.scribe,
@@ -52,13 +60,13 @@ impl Filter for Writer<'_> {
         }
         match wrote.stop {
             None => ControlFlow::Continue(bytes.len()),
-            Some(fault) => ControlFlow::Break(End::Fault(wrote.taken, words(fault))),
+            Some(fault) => ControlFlow::Break(End::Fault(wrote.taken, Stuck(fault))),
         }
     }
 
     // There was no 65, or nothing more would have been read.
-    fn end(&mut self, _out: &mut Output) -> Result<(), &'static str> {
-        Err(words(Fault::Byte))
+    fn end(&mut self, _out: &mut Output) -> Result<(), Stuck> {
+        Err(Stuck(Fault::Byte))
     }
 }
 

@@ -109,8 +109,11 @@ impl Watch<'_> {
     }
 }
 
+// No byte of the input is at fault here: what the watch refuses, it tells in its output.
 impl Filter for Watch<'_> {
-    fn take(&mut self, bytes: &[u8], out: &mut Output) -> ControlFlow<End, usize> {
+    type Fault = &'static str;
+
+    fn take(&mut self, bytes: &[u8], out: &mut Output) -> ControlFlow<End<&'static str>, usize> {
         for (taken, byte) in bytes.iter().enumerate() {
             if out.left() <= EVENT_LINES {
                 return ControlFlow::Continue(taken);
