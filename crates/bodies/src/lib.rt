@@ -1,7 +1,7 @@
 // A table file that can be stepped by, and the automaton's steps read off it: one method for each body.
 //
 // The file's bytes are themselves the table. The steps ask for states and labels below its n and k; each answers what
-// `automaton` says of the table. That bound stays a clause, here and above: a state is a word of the file or of lent memory,
+// `automaton` says of the table; bodies go by their numbers (`offsets`). That bound stays a clause, here and above: a state is a word of the file or of lent memory,
 // and a type for it would be undone at each step.
 #![tactic(auto)]
 

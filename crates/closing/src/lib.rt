@@ -60,7 +60,7 @@ fn openings(table: &Table) -> u64
     y
 }
 
-// T.
+// T. Its rounds go over the set that grows, those of acc over T: two loops, since what a round is given differs.
 pub fn trees(table: &Table) -> u64
     ensures { result ≡ trees_of (automaton table.now) }
 {

@@ -33,7 +33,8 @@ fn record_right(r: Record) -> bool
     !r.finished || (r.depth == 0 && r.alive == 0)
 }
 
-// The first word of work memory that is out of order; its length where the record by itself is.
+// The first word of work memory that is out of order; its length where the record by itself is, which is then the place that
+// the refusal names (`fault_of`).
 fn fault(r: Record, n: u64, k: u64, work: &[u64]) -> Option<usize>
     requires { (r.rows ≤ 64) × (r.allowed ≤ 40) × (length work.now ≡ work_length r.rows r.allowed) }
     ensures { result ≡ fault_of r n k work.now }

@@ -1,6 +1,7 @@
 // The words of the open levels' labels, at the end of work memory: what an event makes of them.
 //
-// The words here are those alone. They are asked to be the words of d open levels (`LabelsIn`).
+// The words here are those alone. They are asked to be the words of d open levels (`LabelsIn`): 1 more than the label where a
+// level is open, and else 0, as memory is laid out.
 #![tactic(auto)]
 
 ghost use Rattle.std.specs.Prelude.{◌≡◌, length};

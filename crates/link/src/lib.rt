@@ -1,5 +1,6 @@
 // The watch's two calls for programs in C and Rust (include/watch.h), over the start call and the event call and nothing
-// else. A record is lent as six words, an answer as four. The crate link_c exports them.
+// else. A record is lent as six words, an answer as four: C has words and lengths, so what `fits` tests stays a clause below, and
+// a refusal is a number. The crate link_c exports them.
 //
 // Neither call assumes anything of its caller but what no slice can show: each pointer points to as many elements as its
 // length says and is not null, and the lent memories do not overlap.

@@ -36,7 +36,7 @@ fn stays_after(row: &[u64], rule: &Rule, d: usize) -> bool
     requires can { CanBy rule.now (length row.now) d }
     ensures { result ≡ not (is_decided (step_by rule.now (row_in d row.now))) }
 {
-    let s = rule.next_state(row, d);
+    let s = rows::next_state(row, &rule.table, rule.step, d);
     rule.stays(row, d, s)
 }
 
@@ -46,7 +46,8 @@ pub fn new_stays(row: &[u64], rule: &Rule, d: usize) -> bool
     requires can { CanBy rule.now (length row.now) d }
     ensures { result ≡ not (is_decided (mark_row (automaton rule.now.table) (step_by rule.now (row_in d row.now)))) }
 {
-    let s = rule.table.mark(rule.next_state(row, d));
+    let s = rows::next_state(row, &rule.table, rule.step, d);
+    let s = rule.table.mark(s);
     rule.stays(row, d, s)
 }
 

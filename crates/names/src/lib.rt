@@ -161,7 +161,8 @@ pub fn good(names: &[u8]) -> bool
     word.length == 0 && 0 < label
 }
 
-// The name of a label: of the first 32 lines, the one at that place; or no word.
+// The name of a label: of the first 32 lines, the one at that place; or an empty word, which no list has, and no Option: the
+// writer asks of any word whether it can be written.
 pub fn name_at(names: &[u8], label: u64) -> Word
     ensures { result ≡ word_at names.now label }
 {

@@ -8,7 +8,7 @@ ghost use Rattle.places.specs.Places.{level_length, row_length, row_at, state_at
 ghost use Rattle.order.specs.Order.{cell_right, label_right, labels_from, word_right, first_from, first_fault};
 
 // What the words are judged by. The bounds on its numbers stand in the clauses, since the definitions judge by the shape of
-// any record (`shape_of`).
+// any record (`shape_of`); the words beside it are lent.
 #[derive(Clone, Copy, Debug, PartialEq, Eq)]
 pub struct Shape {
     // How many rows memory has, row 0 among them, and how many levels each.
@@ -68,7 +68,7 @@ fn level_fault(words: &[u64], s: Shape, r: usize, l: usize) -> Option<usize>
     None
 }
 
-// The first word out of order, in any row and level.
+// The first word out of order, in any row and level. The form is set: two loops, left by label.
 fn rows_fault(words: &[u64], s: Shape) -> Option<usize>
     requires { (s.allowed ≤ 40) × (s.rows ≤ 65) × (row_at s.allowed s.rows ≤ length words.now) }
     ensures { result ≡ first_from (word_right s words.now) 0 (labels_from s) }

@@ -19,7 +19,7 @@ use std::{fs, str};
 // So many bytes are read at once, or wait to be written.
 pub const BLOCK: usize = 65536;
 
-// Reads once, and answers how many bytes it put at the front: what there is, up to so much room, and 0 at the end. A read
+// Reads once, and answers how many bytes it put at the front: what there is, up to so much room, and 0 at the end, as std's `read` does. A read
 // that fails counts as the end.
 pub fn read_some<R: Read>(from: &mut R, block: &mut [u8]) -> usize
     ensures within { IsPrefixLen result block.new }

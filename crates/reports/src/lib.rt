@@ -1,6 +1,7 @@
 // The reports of rows: which are written, and where.
 //
-// Reports are 32-bit words, written from the front of a lent slice; what is past them stays.
+// Reports are 32-bit words, written from the front of a lent slice; what is past them stays. A position is a word of lent
+// memory; that it is small enough to report stays a clause, as what is asked of its row does (`rows`).
 #![tactic(auto)]
 
 ghost use Rattle.std.specs.Prelude.{◌≡◌, ℕ, ◌+◌, ◌*◌, ◌<◌, ◌≤◌, length, get_or};

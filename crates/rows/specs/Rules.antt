@@ -3,7 +3,7 @@ use Rattle.std.specs.Prelude.{ℕ}
 use Rattle.meaning.specs.Rows.{Row}
 use Rattle.bodies.specs.Automaton.{automaton}
 use Rattle.rows.specs.declared.Rule.{Rule}
-use Rattle.rows.specs.Steps.{event_of, Can, step_row, next_state}
+use Rattle.rows.specs.Steps.{event_of, Can, step_row}
 
 -- How many states the rule's table has.
 abbrev pub states_by : Rule → ℕ
@@ -15,6 +15,3 @@ CanBy r w d = Can (automaton r.table) w d (event_of r.step)
 
 abbrev pub step_by : Rule → Row → Row
 step_by r = step_row (automaton r.table) r.accs.now (event_of r.step)
-
-abbrev pub next_by : Rule → Row → ℕ
-next_by r = next_state (automaton r.table) (event_of r.step)

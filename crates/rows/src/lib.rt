@@ -11,8 +11,8 @@ ghost use Rattle.meaning.specs.Rows.{point_row, open_row, close_row, mark_row};
 ghost use Rattle.bodies.specs.Automaton.{automaton};
 ghost use Rattle.places.specs.Places.{row_length};
 ghost use Rattle.places.specs.Memory.{level_in, row_in, held_in, row_words, RowIn};
-ghost use Rattle.rows.specs.Steps.{on_row, in_row, is_decided, neither};
-ghost use Rattle.rows.specs.Rules.{states_by, CanBy, step_by, next_by};
+ghost use Rattle.rows.specs.Steps.{event_of, Can, on_row, next_state, in_row, is_decided, neither};
+ghost use Rattle.rows.specs.Rules.{states_by, CanBy, step_by};
 
 use bodies::Table;
 
@@ -80,6 +80,20 @@ pub fn mark_row(row: &mut [u64], table: &Table, d: usize, position: u64)
     row[at] = table.mark(row[at]);
 }
 
+// The newest state that an event takes the row to. Nothing is written. Not a step of a rule, since it needs no sets.
+pub fn next_state(row: &[u64], table: &Table, step: Step, d: usize) -> u64
+    requires row_in { RowIn (automaton table.now).states d row.now }
+    requires can { Can (automaton table.now) (length row.now) d (event_of step) }
+    ensures { result ≡ next_state (automaton table.now) (event_of step) (row_in d row.now) }
+{
+    let q = row[places::state_at(d)];
+    match step {
+        Step::Open(a) => table.opening(a),
+        Step::Point(a) => table.point(q, a),
+        Step::Close => table.apply(row[places::state_at(d - 1)], q),
+    }
+}
+
 // Is state s in neither set of level d?
 pub fn is_neither(row: &[u64], d: usize, s: u64) -> bool
     requires { (length row.now ≤ row_length 40) × (row_length d ≤ length row.now) × (s < 64) }
@@ -120,20 +134,6 @@ impl Rule<'_> {
             Step::Open(a) => open_row(row, &self.table, self.accs, a, d),
             Step::Point(a) => point_row(row, &self.table, a, d),
             Step::Close => close_row(row, &self.table, d),
-        }
-    }
-
-    // The newest state that the event takes the row to. Nothing is written.
-    pub fn next_state(&self, row: &[u64], d: usize) -> u64
-        requires row_in { RowIn (states_by self.now) d row.now }
-        requires can { CanBy self.now (length row.now) d }
-        ensures { result ≡ next_by self.now (row_in d row.now) }
-    {
-        let q = row[places::state_at(d)];
-        match self.step {
-            Step::Open(a) => self.table.opening(a),
-            Step::Point(a) => self.table.point(q, a),
-            Step::Close => self.table.apply(row[places::state_at(d - 1)], q),
         }
     }
 

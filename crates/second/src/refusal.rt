@@ -5,7 +5,7 @@
 pub enum Refusal {
     Short,
     Header,
-    // The entry, and 0 for its kind, 1 for its offset, 2 for its length.
+    // The entry, and 0 for its kind, 1 for its offset, 2 for its length: both are told by division from the byte's place.
     Contents { entry: usize, field: usize },
     Length,
     // The body, and the byte in it.
@@ -25,6 +25,7 @@ pub enum Refusal {
 }
 
 impl Refusal {
+    // What the watch's number is held against.
     pub fn number(self) -> u64 {
         match self {
             Refusal::Short => 1,

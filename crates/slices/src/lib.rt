@@ -2,6 +2,8 @@
 // written with, so that they are safe on any input. Nothing is assumed of a caller.
 #![tactic(auto)]
 
+ghost use Rattle.std.specs.Prelude.{◌≡◌, ◌+◌, ◌%◌, cond, min, Ok, Err};
+
 // An element, or beyond the end what stands for none, as 0 among numbers.
 pub fn get<T: Copy + Default>(s: &[T], at: usize) -> T {
     s.get(at).copied().unwrap_or_default()
@@ -21,17 +23,23 @@ pub fn copy<T: Copy>(to: &mut [T], from: &[T]) {
 }
 
 // One more is counted.
-pub fn add_one(count: &mut u64) {
+pub fn add_one(count: &mut u64)
+    ensures { count.new ≡ min (count.old + 1) 18446744073709551615 }
+{
     *count = count.saturating_add(1);
 }
 
 // A line of a table of refusals: the first that applies is the one that falls.
-pub fn refuse_if<E: Copy>(applies: bool, why: E) -> Result<(), E> {
+pub fn refuse_if<E: Copy>(applies: bool, why: E) -> Result<(), E>
+    ensures { result ≡ cond applies (Err why) (Ok tt) }
+{
     if applies { Err(why) } else { Ok(()) }
 }
 
 // The last byte of a number.
-pub fn low_byte(x: usize) -> u8 {
+pub fn low_byte(x: usize) -> u8
+    ensures { result ≡ x % 256 }
+{
     (x % 256) as u8
 }
 
@@ -62,7 +70,7 @@ pub fn back<T>(s: &mut [T], from: usize) -> &mut [T] {
 }
 
 // Elements that are written one after the other, from the front of a slice on. Those for which it has no room are counted, and
-// not written.
+// not written. That of `pipes` is another: it has bytes alone, and takes all of a text or none.
 #[derive(Drop)]
 pub struct Output<'a, T = u8> {
     pub room: &'a mut [T],
@@ -70,11 +78,15 @@ pub struct Output<'a, T = u8> {
 }
 
 impl<'a, T: Copy> Output<'a, T> {
-    pub fn new(room: &'a mut [T]) -> Output<'a, T> {
+    pub fn new(room: &'a mut [T]) -> Output<'a, T>
+        ensures { result.length ≡ 0 }
+    {
         Output { room, length: 0 }
     }
 
-    pub fn push(&mut self, x: T) {
+    pub fn push(&mut self, x: T)
+        ensures { self.new.length ≡ min (self.old.length + 1) 18446744073709551615 }
+    {
         put(self.room, self.length, x);
         self.length = self.length.saturating_add(1);
     }

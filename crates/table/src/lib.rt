@@ -12,6 +12,7 @@ ghost use Rattle.table.specs.File.{field_number, refusal_number, refusal_part, r
 
 pub use bodies::Table;
 use offsets::Sizes;
+use std::fmt;
 
 // A field of a contents entry.
 #[derive(Clone, Copy, Debug, PartialEq, Eq)]
@@ -31,6 +32,16 @@ impl Field {
             Field::Offset => 1,
             Field::Length => 2,
         }
+    }
+}
+
+impl fmt::Display for Field {
+    fn fmt<W: fmt::Write>(&self, f: &mut fmt::Formatter<W>) -> fmt::Result {
+        f.write_str(match self {
+            Field::Kind => "kind",
+            Field::Offset => "offset",
+            Field::Length => "length",
+        })
     }
 }
 
@@ -63,7 +74,7 @@ impl Refusal {
         }
     }
 
-    // The entry or the body that it names; else 0.
+    // The entry or the body that it names; else 0. In numbers, as C is told.
     pub fn part(self) -> u64
         ensures { result ≡ refusal_part self }
     {
@@ -170,7 +181,8 @@ impl Headed<'_> {
         None
     }
 
-    // The first wrong contents entry, and the first wrong field of it.
+    // The first wrong contents entry, and the first wrong field of it. A loop, here and over the bodies: the proof through
+    // `find_map` did not close.
     fn wrong_entry(&self) -> Option<(u64, Field)>
         ensures { result ≡ entry_found self.now.file.now }
     {

@@ -22,7 +22,8 @@ pub enum Within {
     Empty,
 }
 
-// How far a text is read: what is begun of a tag, with its name, and the open elements.
+// How far a text is read: what is begun of a tag, with its name, and the open elements. The name is no part of what is begun,
+// since the promises speak of any cursor.
 #[derive(Clone, Copy)]
 pub struct Cursor {
     pub within: Within,

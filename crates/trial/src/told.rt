@@ -2,7 +2,7 @@
 use engine::{Outcome, Record};
 use second::Claim;
 
-// A refusal: its number, and the place that it names.
+// A refusal: its number, and the place that it names. In numbers, since both sides are held to those that C is told.
 #[derive(Clone, Copy, PartialEq, Eq)]
 pub struct Told {
     pub number: u64,

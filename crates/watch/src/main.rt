@@ -10,7 +10,6 @@ use engine::{Record, Refusal};
 use pipes::{BLOCK, End, Filter, Output};
 use std::fmt::{self, Write};
 use std::ops::ControlFlow;
-use table::Field;
 
 // More than the lines of one event take: at most 65 of at most 41 bytes, and a last one. So a line that is put has room.
 const EVENT_LINES: usize = 4096;
@@ -27,14 +26,6 @@ impl fmt::Display for Report {
     }
 }
 
-fn name_of(field: Field) -> &'static str {
-    match field {
-        Field::Kind => "kind",
-        Field::Offset => "offset",
-        Field::Length => "length",
-    }
-}
-
 // Where a refusal finds the table wrong: " entry I FIELD" or " body I byte J". Of any other it is nothing.
 #[derive(Clone, Copy)]
 struct Place(Refusal);
@@ -43,7 +34,7 @@ impl fmt::Display for Place {
     fn fmt<W: fmt::Write>(&self, f: &mut fmt::Formatter<W>) -> fmt::Result {
         match self.0 {
             Refusal::Table(table::Refusal::Contents(entry, field)) => {
-                write!(f, " entry {entry} {}", name_of(field))
+                write!(f, " entry {entry} {field}")
             }
             Refusal::Table(table::Refusal::Body(body, byte)) => write!(
                 f,
@@ -110,10 +101,19 @@ impl Watch<'_> {
 }
 
 // No byte of the input is at fault here: what the watch refuses, it tells in its output.
-impl Filter for Watch<'_> {
-    type Fault = &'static str;
+#[derive(Clone, Copy)]
+enum Never {}
 
-    fn take(&mut self, bytes: &[u8], out: &mut Output) -> ControlFlow<End<&'static str>, usize> {
+impl fmt::Display for Never {
+    fn fmt<W: fmt::Write>(&self, _f: &mut fmt::Formatter<W>) -> fmt::Result {
+        match *self {}
+    }
+}
+
+impl Filter for Watch<'_> {
+    type Fault = Never;
+
+    fn take(&mut self, bytes: &[u8], out: &mut Output) -> ControlFlow<End<Never>, usize> {
         for (taken, byte) in bytes.iter().enumerate() {
             if out.left() <= EVENT_LINES {
                 return ControlFlow::Continue(taken);
@@ -125,7 +125,7 @@ impl Filter for Watch<'_> {
         ControlFlow::Continue(bytes.len())
     }
 
-    fn end(&mut self, out: &mut Output) -> Result<(), &'static str> {
+    fn end(&mut self, out: &mut Output) -> Result<(), Never> {
         self.put_total(out, "cut");
         Ok(())
     }
