@@ -1,4 +1,5 @@
-// The watch's two calls as a static library exports them (include/watch.h): those of the crate link, with the same clauses.
+// The watch's two calls as a static library exports them (include/watch.h): those of the crate link, with the same clauses. A
+// library that other crates stand on cannot be the one that C links, so both stand here again.
 //
 // Neither call assumes anything of its caller but what no slice can show: each pointer points to as many elements as its
 // length says and is not null, and the lent memories do not overlap.

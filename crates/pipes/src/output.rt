@@ -1,4 +1,4 @@
-// What waits to be written, in lent memory.
+// What waits to be written, in lent memory: the programs use no heap.
 ghost use Rattle.std.specs.Prelude.{◌≡◌, ◌-◌, ◌≤◌, ◌↔◌, [], ◌++◌, length, IsOk, OnOk, OnErr};
 
 use std::fmt;

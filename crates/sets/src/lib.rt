@@ -1,7 +1,8 @@
 // T, acc, safe and down as code: sets of states as 64-bit masks, state i at bit i.
 //
 // safe and down go over 64 masks in acc's place. Each function answers the mask of `meaning` of the same name; that these
-// masks are the smallest sets is proved there.
+// masks are the smallest sets is proved there. That three of them collect the states that pass a test, each another, stays
+// three loops: what a shared one answers would have to be told of a closure, in more words than a loop has.
 #![tactic(auto)]
 
 ghost use Rattle.std.specs.Prelude.{◌≡◌, ◌<◌, ◌≤◌};

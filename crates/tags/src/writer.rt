@@ -172,7 +172,8 @@ pub fn spell(names: &[u8], scribe: Scribe, byte: u8) -> Option<Spelled>
     }
 }
 
-// The bytes stand in the output from a place on.
+// The bytes stand in the output from a place on. That there is room stays a clause, here and where a tag is put: the output is
+// lent.
 fn put(out: &mut [u8], at: usize, bytes: &[u8])
     requires { at + length bytes.now ≤ length out.old }
     ensures { out.new ≡ put_at at bytes.now out.old }

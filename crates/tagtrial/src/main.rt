@@ -15,21 +15,12 @@ mod runs;
 mod sides;
 mod tally;
 
-use making::Dice;
 use tally::Tally;
 
-// What the trial draws with, and what it counts.
-#[derive(Drop)]
-struct Desk {
-    dice: Dice,
-    tally: Tally,
-}
+type Desk = making::Desk<Tally>;
 
 fn main(rt: HostRuntime) {
-    let mut desk = Desk {
-        dice: Dice::new(88172645463325252),
-        tally: Tally::default(),
-    };
+    let mut desk = Desk::new();
     runs::try_every_byte(&mut desk);
     runs::try_lists(&mut desk);
     let tally = &desk.tally;

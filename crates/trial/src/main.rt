@@ -13,23 +13,14 @@ mod streams;
 mod tally;
 mod told;
 
-use making::Dice;
 use tally::Tally;
 
-// What the trial draws with, and what it counts.
-#[derive(Drop)]
-struct Desk {
-    dice: Dice,
-    tally: Tally,
-}
+type Desk = making::Desk<Tally>;
 
 fn main(rt: HostRuntime) {
     let mut given = [0u8; 16384];
     let bytes = pipes::read_full(&mut rt.stdin(), &mut given);
-    let mut desk = Desk {
-        dice: Dice::new(88172645463325252),
-        tally: Tally::default(),
-    };
+    let mut desk = Desk::new();
     streams::try_given(&given[..bytes], &mut desk);
     streams::try_made(&mut desk);
     let tally = &desk.tally;

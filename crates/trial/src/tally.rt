@@ -40,10 +40,11 @@ impl Tally {
                 Call::Event | Call::Damaged => add_one(&mut self.damaged_places),
             }
         }
-        for (other, count) in (1..).zip(self.refused.iter_mut()) {
-            if other == number {
-                add_one(count);
-            }
+        let count = number
+            .checked_sub(1)
+            .and_then(|at| self.refused.get_mut(at as usize));
+        if let Some(count) = count {
+            add_one(count);
         }
     }
 
