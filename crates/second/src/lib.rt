@@ -6,7 +6,8 @@
 // hedge can take to which is found by saturation over all pairs. The label that opened a level is found by going back in the
 // stream. Files are judged byte by byte and memories word by word, each from the last to the first.
 //
-// Nothing is assumed of a caller. What is out of reach reads as 0, and is not written.
+// Nothing is assumed of a caller. What is out of reach reads as 0, and is not written. There is no heap, as in the watch: states
+// put aside, verdicts and the stream stand in arrays, beside how many there are.
 #![tactic(auto)]
 
 mod book;
