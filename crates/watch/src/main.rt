@@ -100,20 +100,12 @@ impl Watch<'_> {
     }
 }
 
-// No byte of the input is at fault here: what the watch refuses, it tells in its output.
-#[derive(Clone, Copy)]
-enum Never {}
-
-impl fmt::Display for Never {
-    fn fmt<W: fmt::Write>(&self, _f: &mut fmt::Formatter<W>) -> fmt::Result {
-        match *self {}
-    }
-}
-
+// No byte of the input is at fault here: what the watch refuses, it tells in its output. So no words of a fault are ever said; a
+// type without values would have a `Display` that no call can meet.
 impl Filter for Watch<'_> {
-    type Fault = Never;
+    type Fault = &'static str;
 
-    fn take(&mut self, bytes: &[u8], out: &mut Output) -> ControlFlow<End<Never>, usize> {
+    fn take(&mut self, bytes: &[u8], out: &mut Output) -> ControlFlow<End<&'static str>, usize> {
         for (taken, byte) in bytes.iter().enumerate() {
             if out.left() <= EVENT_LINES {
                 return ControlFlow::Continue(taken);
@@ -125,7 +117,7 @@ impl Filter for Watch<'_> {
         ControlFlow::Continue(bytes.len())
     }
 
-    fn end(&mut self, out: &mut Output) -> Result<(), Never> {
+    fn end(&mut self, out: &mut Output) -> Result<(), &'static str> {
         self.put_total(out, "cut");
         Ok(())
     }
