@@ -21,6 +21,7 @@ pub struct Record {
     pub finished: bool,
 }
 
+// The form is set: methods that take the record by value.
 impl Record {
     // The record of a watch that has read nothing.
     pub fn started(rows: u64, allowed: u64) -> Record
@@ -101,6 +102,7 @@ pub enum Event {
     Unknown,
 }
 
+// The form is set: a match on ranges.
 impl From<u8> for Event {
     ghost from_gives = { λ byte event. event ≡ meaning_of byte };
 
@@ -245,7 +247,7 @@ impl Answer {
         }
     }
 
-    // The refusal's number, and 0 where the call was taken.
+    // The refusal's number, by which C is told, and 0 where the call was taken.
     pub fn number(self) -> u64
         ensures { result ≡ outcome_number self.outcome }
     {

@@ -57,7 +57,8 @@ fn fault(r: Record, n: u64, k: u64, work: &[u64]) -> Option<usize>
     )
 }
 
-// 6 to 8, for a table of n states and k labels.
+// 6 to 8, for a table of n states and k labels: two numbers, as the definitions of the lines take them, and an event is judged
+// by k alone.
 fn judge_call(n: u64, k: u64, r: Record, work: &[u64], reports: usize) -> Result<(), Refusal>
     ensures { result ≡ first_of (call_lines n k r work.now reports) fine }
 {

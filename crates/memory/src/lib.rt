@@ -2,7 +2,8 @@
 // words that are lent.
 //
 // Functions here ask for words whose first n rows are rows (`RowsIn`). Each leaves the words of the rows that the rules
-// name, and the words past them as they were. w, d and n stay three numbers: an event counts one row more, changes the
+// name, and the words past them as they were. That stays a clause, as what is asked of a row does (`rows`): the words are
+// lent. w, d and n stay three numbers: an event counts one row more, changes the
 // newest level between two calls, and lends the words with row 0 or without.
 #![tactic(auto)]
 

@@ -12,7 +12,7 @@ use grammar::Class::{
     Blank as B, Greater as GT, Less as LT, Letter as L, Name as N, Other as O, Slash as SL,
 };
 
-// A row for each 16 byte values, from 0 on.
+// The form is set: a constant table of the classes. A row for each 16 byte values, from 0 on.
 const CLASSES: [Class; 256] = [
     O, O, O, O, O, O, O, O, O, O, B, O, O, B, O, O, // from 0: the line feed and the carriage return
     O, O, O, O, O, O, O, O, O, O, O, O, O, O, O, O, // from 16

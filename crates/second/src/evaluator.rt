@@ -127,7 +127,7 @@ impl Evaluator {
         words
     }
 
-    // The word of the newest level, 0 where nothing is open.
+    // The word of the newest level, 0 where nothing is open, as memory has it.
     fn newest_level(&self) -> u64 {
         let depth = self.seen.claim.depth as usize;
         get(&self.levels(), depth.saturating_sub(1))

@@ -70,7 +70,7 @@ pub fn back<T>(s: &mut [T], from: usize) -> &mut [T] {
 }
 
 // Elements that are written one after the other, from the front of a slice on. Those for which it has no room are counted, and
-// not written. That of `pipes` is another: it has bytes alone, and takes all of a text or none.
+// not written. A slice beside a length, since the trials use no heap. That of `pipes` is another: it has bytes alone, and takes all of a text or none.
 #[derive(Drop)]
 pub struct Output<'a, T = u8> {
     pub room: &'a mut [T],

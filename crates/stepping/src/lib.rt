@@ -1,7 +1,8 @@
 // One event on all rows: would there be room, the step with its reports, the end, and the start.
 //
 // The words here are the rows' words of work memory alone. `is_crowded` and `take_step` ask that they are such (`StandsIn`), the
-// others for rows (`RowsIn`), and the start for their number only. Each leaves the words of the rows that the rules name.
+// others for rows (`RowsIn`), and the start for their number only. These stay clauses: the words
+// are lent. Each leaves the words of the rows that the rules name.
 #![tactic(auto)]
 
 ghost use Rattle.std.specs.Prelude.{◌≡◌, ◌++◌, ℕ, ◌+◌, ◌*◌, ◌<◌, ◌≤◌, ltb, length, get_or, drop, replicate};

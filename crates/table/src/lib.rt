@@ -101,7 +101,8 @@ impl Refusal {
     }
 }
 
-// Is line 2 of the refusals passed? The file has at least the 29 bytes before its bodies.
+// Is line 2 of the refusals passed? The file has at least the 29 bytes before its bodies: that stays a clause, since no `Headed`
+// can be made before this has answered.
 fn header_right(table: &[u8]) -> bool
     requires { 29 ≤ length table.now }
     ensures { result ≡ header_right table.now }

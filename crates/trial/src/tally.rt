@@ -33,6 +33,7 @@ impl Tally {
         }
     }
 
+    // By its number, as both sides are told it (`Told`).
     fn add_refusal(&mut self, call: Call, number: u64) {
         if number == 3 || number == 5 {
             match call {
