@@ -13,7 +13,7 @@ use grammar::Class::{
 };
 
 // The form is set: a constant table of the classes. A row for each 16 byte values, from 0 on.
-const CLASSES: [Class; 256] = [
+static CLASSES: [Class; 256] = [
     O, O, O, O, O, O, O, O, O, O, B, O, O, B, O, O, // from 0: the line feed and the carriage return
     O, O, O, O, O, O, O, O, O, O, O, O, O, O, O, O, // from 16
     B, O, O, O, O, O, O, O, O, O, O, O, O, N, N, SL, // from 32: the space, "-", "." and "/"

@@ -12,8 +12,7 @@ use Rattle.grammar.specs.declared.Fault.{Fault}
 use Rattle.grammar.specs.Feeding.{Step, Fed, feed, Roomed, roomed, stepped}
 use Rattle.grammar.proofs.Feeding.{went, broke, roomed_fits, roomed_short, roomed_stop}
 use Rattle.meaning.specs.Lent.{put_at, on_front}
-use Rattle.tags.specs.declared.feeding.Taken.{Taken}
-use Rattle.tags.specs.Feeding.{step_in, feed_in, taken_of, written_of, fed_of}
+use Rattle.tags.specs.Feeding.{step_in, feed_in, told_of, next_of, written_of, fed_of}
 use Rattle.tags.proofs.Going.{Gone, gone_none, gone_on, gone_stop, gone_all}
 use Rattle.meaning.proofs.Lent.{put_none, put_put}
 
@@ -101,22 +100,22 @@ went_in step a room b e = go (step a b).stops refl
         by_room (no l) = absurd (none-some _ (sym e ∙ ap (λ (x : Step (Roomed _)). x.stops) (roomed_short step a room b h (omega arith))))
     go (Some k) h = absurd (none-some _ (sym e ∙ roomed_stop step a room b k h))
 
-err_no_ok : {A : Type 0} {x : Taken A} {f : Fault} → ◌≡◌ {A = Result (Taken A) Fault} (Err f) (Ok x) → ⊥
+err_no_ok : {n : ℕ} {f : Fault} → ◌≡◌ {A = Result ℕ Fault} (Err f) (Ok n) → ⊥
 err_no_ok e = let z : ◌≡◌ {A = ℕ} 0 1 = cc in omega arith
 
 -- What the answer of a step says of it.
-pub answer_stop : {A : Type 0} (x : Step (Roomed A)) {k : Fault} → taken_of x ≡ Err k → x.stops ≡ Some k
+pub answer_stop : {A : Type 0} (x : Step (Roomed A)) {k : Fault} → told_of x ≡ Err k → x.stops ≡ Some k
 answer_stop x {k} e = go x.stops refl
   where
     go : (t : Option Fault) → x.stops ≡ t → x.stops ≡ Some k
     go None h = absurd (err_no_ok (sym (rw h at e)))
-    go (Some j) h = let q : j ≡ k = let p : ◌≡◌ {A = Result (Taken _) Fault} (Err j) (Err k) = rw h at e in cc in rw (h, q)
+    go (Some j) h = let q : j ≡ k = let p : ◌≡◌ {A = Result ℕ Fault} (Err j) (Err k) = rw h at e in cc in rw (h, q)
 
-pub answer_next : {A : Type 0} (x : Step (Roomed A)) {y : Taken A} → taken_of x ≡ Ok y → (x.stops ≡ None) × (record { next = x.next.inner; given = length x.gives } ≡ y)
-answer_next x {y} e = go x.stops refl
+pub answer_next : {A : Type 0} (x : Step (Roomed A)) {n : ℕ} → told_of x ≡ Ok n → (x.stops ≡ None) × (length x.gives ≡ n)
+answer_next x {n} e = go x.stops refl
   where
-    go : (t : Option Fault) → x.stops ≡ t → (x.stops ≡ None) × (record { next = x.next.inner; given = length x.gives } ≡ y)
-    go None h = (h, (let p : ◌≡◌ {A = Result (Taken _) Fault} (Ok (record { next = x.next.inner; given = length x.gives })) (Ok y) = rw h at e in cc))
+    go : (t : Option Fault) → x.stops ≡ t → (x.stops ≡ None) × (length x.gives ≡ n)
+    go None h = (h, (let p : ◌≡◌ {A = Result ℕ Fault} (Ok (length x.gives)) (Ok n) = rw h at e in cc))
     go (Some j) h = absurd (err_no_ok (rw h at e))
 
 -- What the loop over a piece answers.
@@ -135,24 +134,30 @@ module _ {A : Type 0} (step : A → ℕ → Step A) (a : A) (room : ℕ) (piece 
   pub came_all : length piece ≤ taken → Came out None
   came_all l = came None (λ r. refl) (gives_all step a room piece taken given w.so_far l)
 
-  module _ (l : taken < length piece) {r : Result (Taken A) Fault} (e : r ≡ taken_of (step_in step next (room - given) (get_or piece taken 0)))
+  module _ (l : taken < length piece) {r : Result ℕ Fault} (e : r ≡ told_of (step_in step next (room - given) (get_or piece taken 0)))
+      {next' : A} (led : next' ≡ next_of next (step_in step next (room - given) (get_or piece taken 0)))
       (long : length out ≡ length out₀) {out' : List ℕ}
       (p : given + (room - given) ≤ length out → out' ≡ put_at given (written_of (step_in step next (room - given) (get_or piece taken 0))) out) where
     abbrev x : Step (Roomed A)
     x = step_in step next (room - given) (get_or piece taken 0)
 
-    pub came_stop : {k : Fault} → r ≡ Err k → Came out' (Some k)
+    pub came_stop : {k : Fault} → r ≡ Err k
+        → (record { next = next'; taken = taken; given = given; stop = Some k } ≡ fed_of (feed_in step a room piece))
+        × (room ≤ length out₀ → out' ≡ on_front (feed_in step a room piece).gives out₀)
     came_stop {k} h =
         let stops : x.stops ≡ Some k = answer_stop x (sym e ∙ h) in
         let none : written_of x ≡ [] = rw stops in
-        came (Some k) (λ q. p (omega (arith, long, w.so_far.fits)) ∙ ap (λ (u : List ℕ). put_at given u out) none ∙ put_none given out)
-        (gives_stop step a room piece taken given w.so_far l k stops)
+        let stays : next' ≡ next = led ∙ rw stops in
+        rw stays
+        (came (Some k) (λ q. p (omega (arith, long, w.so_far.fits)) ∙ ap (λ (u : List ℕ). put_at given u out) none ∙ put_none given out)
+        (gives_stop step a room piece taken given w.so_far l k stops))
 
-    pub came_on : {y : Taken A} → r ≡ Ok y → Holds step a room piece out₀ out' y.next (taken + 1) (given + y.given)
-    came_on {y} h =
-        let n = answer_next x (sym e ∙ h) in
-        let u = went_in step next (room - given) (get_or piece taken 0) n.0 in
-        let all : written_of x ≡ x.gives = rw n.0 in
-        subst (λ (z : Taken A). Holds step a room piece out₀ out' z.next (taken + 1) (given + z.given)) n.1
+    pub came_on : {n : ℕ} → r ≡ Ok n → Holds step a room piece out₀ out' next' (taken + 1) (given + n)
+    came_on {n} h =
+        let told = answer_next x (sym e ∙ h) in
+        let u = went_in step next (room - given) (get_or piece taken 0) told.0 in
+        let all : written_of x ≡ x.gives = rw told.0 in
+        let goes : next' ≡ x.next.inner = led ∙ rw told.0 in
+        rw (goes, sym told.1)
         (holds_on step a room piece out₀ taken given w l (length x.gives) u.is refl u.fits
         (λ q. p (omega (arith, long, w.so_far.fits)) ∙ ap (λ (v : List ℕ). put_at given v out) all))

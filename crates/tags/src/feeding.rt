@@ -2,16 +2,9 @@
 ghost use Rattle.std.specs.Prelude.{◌≡◌, ◌+◌, ◌≤◌, ℕ, List, length};
 ghost use Rattle.meaning.specs.Lent.{put_at, on_front};
 ghost use Rattle.grammar.specs.Feeding.{Step};
-ghost use Rattle.tags.specs.Feeding.{step_in, taken_of, written_of, feed_in, fed_of};
+ghost use Rattle.tags.specs.Feeding.{step_in, told_of, next_of, written_of, feed_in, fed_of};
 
 use grammar::Fault;
-
-// Where a byte led, and how many bytes it gave.
-#[derive(Clone, Copy)]
-pub struct Taken<S> {
-    pub next: S,
-    pub given: usize,
-}
 
 // What became of a piece: where it led, how many bytes were taken, how many were given, and the fault that stopped it at the
 // next byte.
@@ -29,17 +22,18 @@ pub trait Steps: Copy {
     ghost step: { List ℕ → Self → ℕ → Step Self };
 
     // One byte, with room for so many bytes of what it gives. They are written from a place of the output on, where it has places
-    // for them.
+    // for them. Answers how many they are. A byte at fault leaves all as it was.
     fn take(
-        self,
+        &mut self,
         names: &[u8],
         byte: u8,
         room: usize,
         out: &mut [u8],
         at: usize,
-    ) -> Result<Taken<Self>, Fault>
-        ensures value { result ≡ taken_of (step_in (step names.now) self room byte) }
-        ensures out_after { at + room ≤ length out.old → out.new ≡ put_at at (written_of (step_in (step names.now) self room byte)) out.old };
+    ) -> Result<usize, Fault>
+        ensures value { result ≡ told_of (step_in (step names.now) self.old room byte) }
+        ensures next { self.new ≡ next_of self.old (step_in (step names.now) self.old room byte) }
+        ensures out_after { at + room ≤ length out.old → out.new ≡ put_at at (written_of (step_in (step names.now) self.old room byte)) out.old };
 }
 
 // A piece, with room for so many bytes of what it gives, up to the first byte at fault. What it gives is written from the front
@@ -52,10 +46,7 @@ pub fn feed<S: Steps>(names: &[u8], from: S, piece: &[u8], room: usize, out: &mu
     let mut given = 0;
     for (taken, &byte) in piece.iter().enumerate() {
         match next.take(names, byte, room - given, out, given) {
-            Ok(step) => {
-                given += step.given;
-                next = step.next;
-            }
+            Ok(bytes) => given += bytes,
             Err(fault) => {
                 return Fed {
                     next,

@@ -6,7 +6,7 @@ ghost use Rattle.tags.specs.Feeding.{fed_of};
 ghost use Rattle.tags.specs.Cursors.{begin, moved, closed_in, tag_at, open_step, close_step, point_step, tag_step, between, angle, slashed, opening, closing, empty, step_of, cursor_step, feed_in, feed_out, whole_stop};
 
 use crate::feeding;
-use crate::feeding::{Steps, Taken};
+use crate::feeding::Steps;
 use crate::levels::Levels;
 use grammar::{Class, Fault, ReadError};
 use names::Word;
@@ -215,26 +215,28 @@ impl Steps for Cursor {
     ghost step = { cursor_step };
 
     fn take(
-        self,
+        &mut self,
         names: &[u8],
         byte: u8,
         room: usize,
         out: &mut [u8],
         at: usize,
-    ) -> Result<Taken<Cursor>, Fault> {
-        let stepped = step(names, self, byte)?;
-        if let Some(event) = stepped.event {
-            if room == 0 {
-                return Err(Fault::Short);
+    ) -> Result<usize, Fault> {
+        match step(names, *self, byte) {
+            Ok(stepped) => {
+                if let Some(event) = stepped.event {
+                    if room == 0 {
+                        return Err(Fault::Short);
+                    }
+                    if at < out.len() {
+                        out[at] = event;
+                    }
+                }
+                *self = stepped.next;
+                Ok(usize::from(stepped.event.is_some()))
             }
-            if at < out.len() {
-                out[at] = event;
-            }
+            Err(fault) => Err(fault),
         }
-        Ok(Taken {
-            next: stepped.next,
-            given: usize::from(stepped.event.is_some()),
-        })
     }
 }
 

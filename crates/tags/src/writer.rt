@@ -8,7 +8,7 @@ ghost use Rattle.tags.specs.Feeding.{fed_of};
 ghost use Rattle.tags.specs.Writers.{begin, written, ended, has_name, head_of, tail_of, tag_bytes, open_event, point_event, close_event, close_of_event, event_step, spell_step, scribe_step, gives_by, less_by, follower_step, follow_in, follow_of, write_in, written_out};
 
 use crate::feeding;
-use crate::feeding::{Steps, Taken};
+use crate::feeding::Steps;
 use crate::levels::Levels;
 use answers::Event;
 use grammar::{Fault, WriteError};
@@ -247,25 +247,27 @@ impl Steps for Scribe {
     ghost step = { scribe_step };
 
     fn take(
-        self,
+        &mut self,
         names: &[u8],
         byte: u8,
         room: usize,
         out: &mut [u8],
         at: usize,
-    ) -> Result<Taken<Scribe>, Fault> {
-        let spelled = spell(names, self, byte).ok_or(Fault::Byte)?;
-        let given = spelled.length();
-        if room < given {
-            return Err(Fault::Short);
+    ) -> Result<usize, Fault> {
+        match spell(names, *self, byte) {
+            Some(spelled) => {
+                let given = spelled.length();
+                if room < given {
+                    return Err(Fault::Short);
+                }
+                if at <= out.len() && given <= out.len() - at {
+                    spelled.put(out, at);
+                }
+                *self = spelled.next;
+                Ok(given)
+            }
+            None => Err(Fault::Byte),
         }
-        if at <= out.len() && given <= out.len() - at {
-            spelled.put(out, at);
-        }
-        Ok(Taken {
-            next: spelled.next,
-            given,
-        })
     }
 }
 
@@ -281,21 +283,21 @@ impl Steps for Follower {
     ghost step = { follower_step };
 
     fn take(
-        self,
+        &mut self,
         names: &[u8],
         byte: u8,
         _room: usize,
         _out: &mut [u8],
         _at: usize,
-    ) -> Result<Taken<Follower>, Fault> {
-        let spelled = spell(names, self.scribe, byte).ok_or(Fault::Byte)?;
-        Ok(Taken {
-            next: Follower {
-                scribe: spelled.next,
-                left: less(self.left, spelled.length()),
-            },
-            given: 0,
-        })
+    ) -> Result<usize, Fault> {
+        match spell(names, self.scribe, byte) {
+            Some(spelled) => {
+                self.left = less(self.left, spelled.length());
+                self.scribe = spelled.next;
+                Ok(0)
+            }
+            None => Err(Fault::Byte),
+        }
     }
 }
 
