@@ -1,10 +1,11 @@
 -- How far a stream is written, as the writer holds it, and an event's step in its terms. Definitions only. That this is
 -- the writing of `grammar` is proved.
-use Rattle.std.specs.Prelude.{Bool, true, false, cond, ◌&&◌, List, [], ◌∷◌, ℕ, ◌-◌, ◌%◌, eqb, ltb, length, Option, Some, None}
+use Rattle.std.specs.Prelude.{Bool, true, false, cond, ◌&&◌, List, [], ◌∷◌, ℕ, ◌-◌, ◌%◌, eqb, ltb, length, Option, Some, None, Result, Ok, Err}
 use Rattle.meaning.specs.Lent.{on_front}
 use Rattle.answers.specs.declared.Event.{Event}
 use Rattle.answers.specs.declared.Event.TheVariants as event
 use Rattle.answers.specs.Bytes.{meaning_of}
+use Rattle.grammar.specs.declared.Fault.{Fault}
 use Rattle.grammar.specs.declared.Fault.TheVariants as fault
 use Rattle.grammar.specs.Bytes.{less, slash, greater}
 use Rattle.grammar.specs.Tags as tags
@@ -67,6 +68,15 @@ event_step names s event.Unknown = None
 -- One event byte. The names are the first 32 lines of the list. After byte 65 nothing goes on.
 abbrev pub spell_step : List ℕ → Scribe → ℕ → Option Spelled
 spell_step names s b = cond s.ended None (event_step names s (meaning_of b))
+
+-- The tag that an event gives, and the scribe after it: one at fault leaves it as it was.
+abbrev pub tag_by : Option Spelled → Result (Option Tag) Fault
+tag_by None = Err fault.Byte
+tag_by (Some x) = Ok x.tag
+
+abbrev pub next_by : Scribe → Option Spelled → Scribe
+next_by s None = s
+next_by s (Some x) = x.next
 
 ---------------------------------------------------------------- a tag's bytes
 

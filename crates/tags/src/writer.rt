@@ -1,11 +1,11 @@
 // The writer: event bytes in, tagged text without blanks out. A scribe, by value, says how far a stream is written, so
 // that it can go on in pieces; `write` takes a whole stream, and judges all of it before it writes.
-ghost use Rattle.std.specs.Prelude.{◌≡◌, ◌&&◌, ◌+◌, ◌≤◌, length};
+ghost use Rattle.std.specs.Prelude.{◌≡◌, ◌&&◌, ◌+◌, ◌≤◌, ◌++◌, length};
 ghost use Rattle.meaning.specs.Lent.{put_at};
 ghost use Rattle.grammar.specs.Feeding.{goes_on};
 ghost use Rattle.grammar.specs.Writing.{write_answer, write_out};
 ghost use Rattle.tags.specs.Feeding.{fed_of};
-ghost use Rattle.tags.specs.Writers.{begin, written, ended, has_name, head_of, tail_of, tag_bytes, open_event, point_event, close_event, close_of_event, event_step, spell_step, scribe_step, gives_by, less_by, follower_step, follow_in, follow_of, write_in, written_out};
+ghost use Rattle.tags.specs.Writers.{begin, written, ended, has_name, head_of, tail_of, tag_bytes, open_event, point_event, close_event, close_of_event, event_step, spell_step, tag_by, next_by, scribe_step, gives_by, less_by, follower_step, follow_in, follow_of, write_in, written_out};
 
 use crate::feeding;
 use crate::feeding::Steps;
@@ -63,34 +63,98 @@ impl Scribe {
         }
     }
 
-    // The stream ends, where nothing is open.
-    fn ends(self) -> Option<Spelled>
-        ensures { result ≡ ended self }
+    // A tag of this form and name; after it these elements are open.
+    fn writes(&mut self, levels: Levels, form: Form, name: Word) -> Result<Option<Tag>, Fault>
+        ensures value { result ≡ tag_by (Some (written levels form name)) }
+        ensures next { self.new ≡ next_by self.old (Some (written levels form name)) }
     {
-        if self.levels.depth == 0 {
-            Some(Spelled {
-                next: Scribe {
-                    levels: self.levels,
-                    ended: true,
-                },
-                tag: None,
-            })
-        } else {
-            None
+        self.levels = levels;
+        self.ended = false;
+        Ok(Some(Tag { form, name }))
+    }
+
+    // The stream ends, where nothing is open.
+    fn ends(&mut self) -> Result<Option<Tag>, Fault>
+        ensures value { result ≡ tag_by (ended self.old) }
+        ensures next { self.new ≡ next_by self.old (ended self.old) }
+    {
+        if self.levels.depth != 0 {
+            return Err(Fault::Byte);
+        }
+        self.ended = true;
+        Ok(None)
+    }
+
+    fn opens(&mut self, names: &[u8], label: u64) -> Result<Option<Tag>, Fault>
+        ensures value { result ≡ tag_by (open_event names.now self.old label) }
+        ensures next { self.new ≡ next_by self.old (open_event names.now self.old label) }
+    {
+        let name = names::name_at(names, label);
+        if !has_name(name) || 40 <= self.levels.depth {
+            return Err(Fault::Byte);
+        }
+        self.writes(self.levels.deeper((label % 256) as u8), Form::Opening, name)
+    }
+
+    fn points(&mut self, names: &[u8], label: u64) -> Result<Option<Tag>, Fault>
+        ensures value { result ≡ tag_by (point_event names.now self.old label) }
+        ensures next { self.new ≡ next_by self.old (point_event names.now self.old label) }
+    {
+        let name = names::name_at(names, label);
+        if !has_name(name) {
+            return Err(Fault::Byte);
+        }
+        self.writes(self.levels, Form::Empty, name)
+    }
+
+    fn closes(&mut self, names: &[u8]) -> Result<Option<Tag>, Fault>
+        ensures value { result ≡ tag_by (close_event names.now self.old) }
+        ensures next { self.new ≡ next_by self.old (close_event names.now self.old) }
+    {
+        let newest = self.levels.newest().ok_or(Fault::Byte)?;
+        let name = names::name_at(names, u64::from(newest));
+        if !has_name(name) {
+            return Err(Fault::Byte);
+        }
+        self.writes(self.levels.shallower(), Form::Closing, name)
+    }
+
+    // A close that names a label: the newest's.
+    fn closes_label(&mut self, names: &[u8], label: u64) -> Result<Option<Tag>, Fault>
+        ensures value { result ≡ tag_by (close_of_event names.now self.old label) }
+        ensures next { self.new ≡ next_by self.old (close_of_event names.now self.old label) }
+    {
+        match self.levels.newest() {
+            Some(newest) if u64::from(newest) == label => self.closes(names),
+            _ => Err(Fault::Byte),
         }
     }
-}
 
-// A tag of this form and name; after it these elements are open.
-fn written(levels: Levels, form: Form, name: Word) -> Spelled
-    ensures { result ≡ written levels form name }
-{
-    Spelled {
-        next: Scribe {
-            levels,
-            ended: false,
-        },
-        tag: Some(Tag { form, name }),
+    // An event, where byte 65 was not read yet.
+    fn takes(&mut self, names: &[u8], event: Event) -> Result<Option<Tag>, Fault>
+        ensures value { result ≡ tag_by (event_step names.now self.old event) }
+        ensures next { self.new ≡ next_by self.old (event_step names.now self.old event) }
+    {
+        match event {
+            Event::Open(a) => self.opens(names, a),
+            Event::Point(a) => self.points(names, a),
+            Event::Close => self.closes(names),
+            Event::CloseOf(a) => self.closes_label(names, a),
+            Event::End => self.ends(),
+            Event::Unknown => Err(Fault::Byte),
+        }
+    }
+
+    // One event byte: the tag that it gives, which the stream's end does not. A byte with which no whole stream goes on leaves
+    // the scribe as it was.
+    fn spells(&mut self, names: &[u8], byte: u8) -> Result<Option<Tag>, Fault>
+        ensures value { result ≡ tag_by (spell_step names.now self.old byte) }
+        ensures next { self.new ≡ next_by self.old (spell_step names.now self.old byte) }
+    {
+        if self.ended {
+            return Err(Fault::Byte);
+        }
+        self.takes(names, Event::from(byte))
     }
 }
 
@@ -101,74 +165,14 @@ fn has_name(name: Word) -> bool
     0 < name.length && name.length < 17
 }
 
-fn open_event(names: &[u8], scribe: Scribe, label: u64) -> Option<Spelled>
-    ensures { result ≡ open_event names.now scribe label }
-{
-    let levels = scribe.levels;
-    let name = names::name_at(names, label);
-    if has_name(name) && levels.depth < 40 {
-        Some(written(levels.deeper((label % 256) as u8), Form::Opening, name))
-    } else {
-        None
-    }
-}
-
-fn point_event(names: &[u8], scribe: Scribe, label: u64) -> Option<Spelled>
-    ensures { result ≡ point_event names.now scribe label }
-{
-    let name = names::name_at(names, label);
-    if has_name(name) {
-        Some(written(scribe.levels, Form::Empty, name))
-    } else {
-        None
-    }
-}
-
-fn close_event(names: &[u8], scribe: Scribe) -> Option<Spelled>
-    ensures { result ≡ close_event names.now scribe }
-{
-    let levels = scribe.levels;
-    let newest = levels.newest()?;
-    let name = names::name_at(names, u64::from(newest));
-    if has_name(name) {
-        Some(written(levels.shallower(), Form::Closing, name))
-    } else {
-        None
-    }
-}
-
-// A close that names a label: the newest's.
-fn close_of_event(names: &[u8], scribe: Scribe, label: u64) -> Option<Spelled>
-    ensures { result ≡ close_of_event names.now scribe label }
-{
-    match scribe.levels.newest() {
-        Some(newest) if u64::from(newest) == label => close_event(names, scribe),
-        _ => None,
-    }
-}
-
-// An event, where byte 65 was not read yet.
-fn event_step(names: &[u8], scribe: Scribe, event: Event) -> Option<Spelled>
-    ensures { result ≡ event_step names.now scribe event }
-{
-    match event {
-        Event::Open(a) => open_event(names, scribe, a),
-        Event::Point(a) => point_event(names, scribe, a),
-        Event::Close => close_event(names, scribe),
-        Event::CloseOf(a) => close_of_event(names, scribe, a),
-        Event::End => scribe.ends(),
-        Event::Unknown => None,
-    }
-}
-
 // One event byte, if a whole stream goes on with it; after byte 65 nothing does. The names are the first 32 lines of the list.
 pub fn spell(names: &[u8], scribe: Scribe, byte: u8) -> Option<Spelled>
     ensures { result ≡ spell_step names.now scribe byte }
 {
-    if scribe.ended {
-        None
-    } else {
-        event_step(names, scribe, Event::from(byte))
+    let mut next = scribe;
+    match next.spells(names, byte) {
+        Ok(tag) => Some(Spelled { next, tag }),
+        Err(_) => None,
     }
 }
 
@@ -203,6 +207,16 @@ impl Form {
     }
 }
 
+// A name between what stands before and after it.
+fn put_parts(out: &mut [u8], at: usize, head: &[u8], name: &[u8], tail: &[u8])
+    requires { at + (length head.now + (length name.now + length tail.now)) ≤ length out.old }
+    ensures { out.new ≡ put_at at (head.now ++ (name.now ++ tail.now)) out.old }
+{
+    put(out, at, head);
+    put(out, at + head.len(), name);
+    put(out, at + head.len() + name.len(), tail);
+}
+
 impl Tag {
     fn length(self) -> usize
         ensures { result ≡ length (tag_bytes self) }
@@ -214,11 +228,12 @@ impl Tag {
         requires { at + length (tag_bytes self) ≤ length out.old }
         ensures { out.new ≡ put_at at (tag_bytes self) out.old }
     {
-        let head = self.form.head();
         let name = self.name.spelt();
-        put(out, at, head);
-        put(out, at + head.len(), name);
-        put(out, at + head.len() + name.len(), self.form.tail());
+        match self.form {
+            Form::Opening => put_parts(out, at, b"<", name, b">"),
+            Form::Closing => put_parts(out, at, b"</", name, b">"),
+            Form::Empty => put_parts(out, at, b"<", name, b"/>"),
+        }
     }
 }
 
