@@ -51,7 +51,7 @@ module _ (f : List ℕ) where
       go Length = (both_true (field_right f i Offset) (field_right f i Length) first.1).1
 
   -- An entry is right exactly if the field found in it is; the fields before that one are right anyway.
-  by_field : (i : ℕ) → entry_right f i ≡ field_right f i (wrong_field f i)
+  pub by_field : (i : ℕ) → entry_right f i ≡ field_right f i (wrong_field f i)
   by_field i = go (field_right f i Kind) (field_right f i Offset) refl refl
     where
       go :
