@@ -34,7 +34,7 @@ pub fn make(names: &[u8], events: &[u8], text: &mut Output, dice: &mut Dice) {
         push_blank(text, dice);
         push_blank(text, dice);
         let label = draw_label(events, at, dice, labels);
-        retell::spell(names, Event::from(*byte), label, text);
+        retell::spell(names, Event::from(*byte), usize::from(label), text);
         misspell(text, dice);
     }
 }

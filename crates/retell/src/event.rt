@@ -1,5 +1,8 @@
 // What an event byte means. `second` has an enum of its own: the two share no code, so that they don't share a misreading.
 
+// The labelled close of label 0; those of the labels up to 31 follow it.
+pub const LABELLED: u8 = 66;
+
 #[derive(Clone, Copy, PartialEq, Eq)]
 pub enum Event {
     Open(u8),
@@ -17,9 +20,16 @@ impl From<u8> for Event {
             32..=63 => Event::Point(byte - 32),
             64 => Event::Close(None),
             65 => Event::End,
-            66..=97 => Event::Close(Some(byte - 66)),
+            LABELLED..=97 => Event::Close(Some(byte - LABELLED)),
             _ => Event::Unknown(byte),
         }
+    }
+}
+
+// A number beyond a byte means nothing either.
+impl From<usize> for Event {
+    fn from(number: usize) -> Event {
+        u8::try_from(number).map_or(Event::Unknown(255), Event::from)
     }
 }
 
@@ -30,7 +40,7 @@ impl From<Event> for u8 {
             Event::Point(label) => label.wrapping_add(32),
             Event::Close(None) => 64,
             Event::End => 65,
-            Event::Close(Some(label)) => label.wrapping_add(66),
+            Event::Close(Some(label)) => label.wrapping_add(LABELLED),
             Event::Unknown(byte) => byte,
         }
     }

@@ -16,7 +16,7 @@ mod seeking;
 mod text;
 mod writing;
 
-pub use event::Event;
+pub use event::{Event, LABELLED};
 pub use names::{is_good, lines};
 pub use reading::{read, tell};
 pub use refusal::{Fault, Refusal};

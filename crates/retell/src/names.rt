@@ -53,10 +53,21 @@ pub fn label_of(names: &[u8], name: &[u8]) -> Option<u8> {
     found.map(|at| low_byte(count(names, at, LAST)))
 }
 
+// Where the line of a label begins, or the end.
+fn line_at(names: &[u8], label: usize) -> usize {
+    let mut left = label;
+    for (at, byte) in names.iter().enumerate() {
+        if left == 0 {
+            return at;
+        }
+        if *byte == LAST {
+            left -= 1;
+        }
+    }
+    names.len()
+}
+
 // The name of a label, which is empty where the list has none.
-pub fn name_of(names: &[u8], label: u8) -> &[u8] {
-    let found = (0..names.len()).find(|at| {
-        begins(names, *at) && count(names, *at, LAST) == usize::from(label)
-    });
-    line(names, found.unwrap_or(names.len()))
+pub fn name_of(names: &[u8], label: usize) -> &[u8] {
+    line(names, line_at(names, label))
 }

@@ -65,7 +65,7 @@ fn first_stuck(names: &[u8], events: &[u8]) -> Option<usize> {
 }
 
 // The tag of an event, with the name of a label; an end and a byte of no meaning have none.
-pub fn spell(names: &[u8], event: Event, label: u8, text: &mut Output) {
+pub fn spell(names: &[u8], event: Event, label: usize, text: &mut Output) {
     if matches!(event, Event::End | Event::Unknown(_)) {
         return;
     }
@@ -83,7 +83,7 @@ pub fn spell(names: &[u8], event: Event, label: u8, text: &mut Output) {
 // The tag of the event at a place.
 fn spell_at(names: &[u8], events: &[u8], at: usize, text: &mut Output) {
     let event = Event::from(get(events, at));
-    spell(names, event, label_at(events, at), text);
+    spell(names, event, usize::from(label_at(events, at)), text);
 }
 
 // The tags of all events.

@@ -7,11 +7,12 @@ use crate::order::Claim;
 use crate::reach::{Reach, States};
 use crate::refusal::Refusal;
 use crate::run::Run;
-use slices::{Output, get, low_byte, put, refuse_if};
+use slices::{Output, add_one, get, low_byte, put, refuse_if};
 
 // What all completions say of a position.
-#[derive(Clone, Copy, PartialEq, Eq)]
+#[derive(Clone, Copy, Default, PartialEq, Eq)]
 enum Verdict {
+    #[default]
     Alive,
     RuledOut,
     Certain,
@@ -66,6 +67,8 @@ pub struct Evaluator {
     before: u64,
     seen: Seen,
     verdicts: [Verdict; 1024],
+    // What they are after an event, once it is taken.
+    next: [Verdict; 1024],
 }
 
 impl Evaluator {
@@ -80,6 +83,7 @@ impl Evaluator {
             before: 0,
             seen: Seen::default(),
             verdicts: [Verdict::Alive; 1024],
+            next: [Verdict::Alive; 1024],
         }
     }
 
@@ -187,20 +191,31 @@ impl Evaluator {
         self.verdict(&Run::of(&self.book, self.start, seen.events, position))
     }
 
-    // The verdicts after the events that were read: those that stand, and new ones for the positions that have none yet.
-    fn judge_all(&self, seen: Seen) -> [Verdict; 1024] {
-        let mut next = self.verdicts;
-        for (position, verdict) in (1..=seen.positions).zip(next.iter_mut()) {
-            if *verdict == Verdict::Alive {
-                *verdict = self.judge(seen, position);
+    // The verdict that stands at a place, or where there is none yet, that after the events that were read.
+    fn next_verdict(&self, seen: Seen, at: usize) -> Verdict {
+        match get(&self.verdicts, at) {
+            Verdict::Alive => self.judge(seen, at.saturating_add(1)),
+            verdict => verdict,
+        }
+    }
+
+    // Judges the positions that were read. Answers how many are alive.
+    fn judge_all(&mut self, seen: Seen) -> u64 {
+        let mut alive = 0;
+        for at in 0..seen.positions.min(self.next.len()) {
+            let verdict = self.next_verdict(seen, at);
+            put(&mut self.next, at, verdict);
+            if verdict == Verdict::Alive {
+                add_one(&mut alive);
             }
         }
-        next
+        alive
     }
 
     // The verdicts that stand now; each that is new has to be reported.
-    fn settle(&mut self, next: &[Verdict], reports: &mut Output<u32>) {
+    fn settle(&mut self, reports: &mut Output<u32>) {
         let mut position = self.before;
+        let next = self.next.iter().take(self.seen.positions);
         for (verdict, new) in self.verdicts.iter_mut().zip(next) {
             position = position.saturating_add(1);
             if *verdict != *new {
@@ -211,19 +226,17 @@ impl Evaluator {
     }
 
     // One event byte: the refusal that falls, 8 to 16, or the reports that must come.
-    pub fn follow(&mut self, byte: u8, reports: &mut Output<u32>) -> Result<(), Refusal> {
+    pub fn follow(&mut self, byte: usize, reports: &mut Output<u32>) -> Result<(), Refusal> {
         let event = Event::from(byte);
         let claim = self.seen.claim;
         claim.byte_refusal(self.labels, self.newest_level(), event)?;
-        self.book.put_event(self.seen.events, byte);
+        self.book.put_event(self.seen.events, u8::from(event));
         let mut read = self.seen.after(event);
-        let next = self.judge_all(read);
-        let of = next.iter().take(read.positions);
-        let alive = of.filter(|verdict| **verdict == Verdict::Alive).count() as u64;
+        let alive = self.judge_all(read);
         refuse_if(claim.rows < alive, Refusal::Rows)?;
         read.claim.alive = alive;
         self.seen = read;
-        self.settle(&next, reports);
+        self.settle(reports);
         Ok(())
     }
 }

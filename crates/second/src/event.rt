@@ -25,6 +25,13 @@ impl From<u8> for Event {
     }
 }
 
+// A number beyond a byte means nothing either.
+impl From<usize> for Event {
+    fn from(number: usize) -> Event {
+        u8::try_from(number).map_or(Event::Unknown(255), Event::from)
+    }
+}
+
 impl From<Event> for u8 {
     fn from(event: Event) -> u8 {
         match event {
@@ -65,7 +72,7 @@ impl Event {
 
 // The words of the levels, level 1 first, as memory has them, whose layout may not change: 1 + the label where the level is open,
 // and else 0. What they are after an event that is taken at a depth, of words as they stand.
-pub fn step_levels(words: &mut [u64], depth: usize, byte: u8) {
+pub fn step_levels(words: &mut [u64], depth: usize, byte: usize) {
     match Event::from(byte) {
         Event::Open(label) => put(words, depth, u64::from(label) + 1),
         Event::Close | Event::CloseOf(_) => put(words, depth.saturating_sub(1), 0),

@@ -21,5 +21,6 @@ mod run;
 
 pub use evaluator::Evaluator;
 pub use event::{Event, step_levels};
+pub use file::{file_refusal, labels, states};
 pub use order::{Call, Claim, start_refusal};
 pub use refusal::Refusal;

@@ -83,7 +83,7 @@ pub struct Call<'a> {
     pub claim: Claim,
     pub work: &'a [u64],
     pub reports: usize,
-    pub byte: u8,
+    pub byte: usize,
 }
 
 impl Call<'_> {

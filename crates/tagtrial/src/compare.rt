@@ -1,5 +1,5 @@
 // Both sides on a text, and both on a stream.
-use crate::sides::{Said, compare, read, write};
+use crate::sides::{Said, compare, place_of, read, write};
 use crate::{Desk, feeding, putting};
 use making::Dice;
 use retell::{Event, Fault, Refusal};
@@ -62,10 +62,10 @@ fn try_same_text(names: &[u8], back: &[u8], text: &[u8], desk: &mut Desk) {
 fn try_back(names: &[u8], events: &[u8], desk: &mut Desk) {
     let mut out = [0; 4096];
     let mut again = [0; 512];
-    let bytes = write(names, events, &mut out).unwrap_or(0);
-    let text = part(&out, 0, bytes);
+    let written = write(names, events, &mut out);
+    let text = part(&out, 0, place_of(written));
     let told = read(names, text, slices::front(&mut again, events.len()));
-    let back = part(&again, 0, told.unwrap_or(0));
+    let back = part(&again, 0, place_of(told));
     desk.tally.check(told.is_ok() && is_back(events, back));
     add_one(&mut desk.tally.again);
     if events != back {
@@ -77,12 +77,7 @@ fn try_back(names: &[u8], events: &[u8], desk: &mut Desk) {
 // A stream at once, with room enough and, where it is taken, with just enough or one byte too few. Answers what must be said.
 fn try_at_once(names: &[u8], events: &[u8], desk: &mut Desk) -> Said {
     let must = try_writing(names, events, 4096, desk);
-    let most = match must {
-        Ok(bytes) => bytes,
-        Err(Refusal::At(_, place)) => place,
-        Err(Refusal::Names | Refusal::Room) => 0,
-    };
-    let less = most.saturating_sub(desk.dice.draw(2));
+    let less = place_of(must).saturating_sub(desk.dice.draw(2));
     let _ = try_writing(names, events, less, desk);
     must
 }
@@ -136,8 +131,8 @@ fn draw_room(dice: &mut Dice, events: usize) -> usize {
 // The events of a text that is taken, written again. Their closes are labelled, so that they come back as they are.
 fn try_again(names: &[u8], text: &[u8], desk: &mut Desk) {
     let mut out = [0; 512];
-    let count = read(names, text, &mut out).unwrap_or(0);
-    let events = part(&out, 0, count);
+    let told = read(names, text, &mut out);
+    let events = part(&out, 0, place_of(told));
     desk.tally.check(is_back(events, events));
     try_stream(names, events, desk);
 }

@@ -6,6 +6,15 @@ use slices::front;
 // How many events or bytes there are, or why there are none.
 pub type Said = Result<usize, Refusal>;
 
+// How many there are, or the place of a refusal; 0 where it names none.
+pub fn place_of(said: Said) -> usize {
+    match said {
+        Ok(count) => count,
+        Err(Refusal::At(_, place)) => place,
+        Err(Refusal::Names | Refusal::Room) => 0,
+    }
+}
+
 // No From, here and below, since none of the types is of this crate.
 fn fault_of(fault: grammar::Fault) -> Fault {
     match fault {

@@ -177,7 +177,7 @@ fn harm_record(dice: &mut Dice, was: Record) -> Record {
 // The words of the levels that a taken event must leave, of memory as it stands.
 fn levels_after(record: Record, work: &[u64], byte: u8) -> [u64; 40] {
     let mut levels = levels_in(work, record.allowed);
-    second::step_levels(&mut levels, record.depth as usize, byte);
+    second::step_levels(&mut levels, record.depth as usize, usize::from(byte));
     levels
 }
 
@@ -194,7 +194,7 @@ fn call(lent: Lent, desk: &mut Desk, record: Record, byte: u8) -> bool {
         claim,
         work,
         reports: reports.len(),
-        byte,
+        byte: usize::from(byte),
     };
     let must = call.refusal().err().map(Told::from);
     let next = levels_after(record, work, byte);

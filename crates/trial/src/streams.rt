@@ -142,7 +142,9 @@ fn follow_byte(
 ) -> Record {
     let mut room = [0; 1024];
     let mut must = Output::new(&mut room);
-    let due = evaluator.follow(byte, &mut must).map_err(Told::from);
+    let due = evaluator
+        .follow(usize::from(byte), &mut must)
+        .map_err(Told::from);
     let count = must.length as u64;
     let file = &mut *lent.file;
     let work = &mut *lent.work;
