@@ -111,6 +111,15 @@ abbrev pub given_by : Option ℕ → List ℕ
 given_by None = []
 given_by (Some e) = e ∷ []
 
+-- The event that a byte gives, and the cursor after it: one at fault leaves it as it was.
+abbrev pub event_by : Result Stepped Fault → Result (Option ℕ) Fault
+event_by (Ok x) = Ok x.event
+event_by (Err f) = Err f
+
+abbrev pub next_by : Cursor → Result Stepped Fault → Cursor
+next_by c (Ok x) = x.next
+next_by c (Err f) = c
+
 -- A step as it counts for a feed: a byte at fault leaves the cursor as it was.
 abbrev pub step_by : Cursor → Result Stepped Fault → feeding.Step Cursor
 step_by c (Ok x) = feeding.stepped x.next (given_by x.event)

@@ -1,9 +1,9 @@
 // The reader: tagged text in, event bytes out. A cursor, by value, says how far a text is read, so that it can be fed in
 // pieces; `read` takes a whole text, and judges all of it before it writes.
-ghost use Rattle.std.specs.Prelude.{◌≡◌, length};
+ghost use Rattle.std.specs.Prelude.{◌≡◌, Ok, length};
 ghost use Rattle.grammar.specs.Reading.{read_answer, read_out, end_stop};
 ghost use Rattle.tags.specs.Feeding.{fed_of};
-ghost use Rattle.tags.specs.Cursors.{begin, moved, closed_in, tag_at, open_step, close_step, point_step, tag_step, between, angle, slashed, opening, closing, empty, step_of, cursor_step, feed_in, feed_out, whole_stop};
+ghost use Rattle.tags.specs.Cursors.{begin, moved, closed_in, tag_at, open_step, close_step, point_step, tag_step, between, angle, slashed, opening, closing, empty, step_of, event_by, next_by, cursor_step, feed_in, feed_out, whole_stop};
 
 use crate::feeding;
 use crate::feeding::Steps;
@@ -51,16 +51,156 @@ impl Cursor {
     }
 
     // More of a tag is begun.
-    fn goes(self, within: Within, name: Word) -> Stepped
-        ensures { result ≡ moved self within name }
+    fn goes(&mut self, within: Within, name: Word) -> Result<Option<u8>, Fault>
+        ensures value { result ≡ event_by (Ok (moved self.old within name)) }
+        ensures next { self.new ≡ next_by self.old (Ok (moved self.old within name)) }
     {
-        Stepped {
-            next: Cursor {
-                within,
-                name,
-                levels: self.levels,
-            },
-            event: None,
+        self.within = within;
+        self.name = name;
+        Ok(None)
+    }
+
+    // A whole tag gives an event; after it these elements are open.
+    fn gives(&mut self, levels: Levels, event: u8) -> Result<Option<u8>, Fault>
+        ensures value { result ≡ event_by (Ok (tag_at levels event)) }
+        ensures next { self.new ≡ next_by self.old (Ok (tag_at levels event)) }
+    {
+        self.within = Within::Between;
+        self.name = Word::none();
+        self.levels = levels;
+        Ok(Some(event))
+    }
+
+    // An opening tag of a known name.
+    fn opens(&mut self, label: u8) -> Result<Option<u8>, Fault>
+        ensures value { result ≡ event_by (open_step self.old label) }
+        ensures next { self.new ≡ next_by self.old (open_step self.old label) }
+    {
+        if 40 <= self.levels.depth {
+            return Err(Fault::Deep);
+        }
+        self.gives(self.levels.deeper(label), label)
+    }
+
+    // A closing tag of a known name gives the close that names its label, which is below 32; one that is not is taken for its
+    // remainder.
+    fn closes(&mut self, label: u8) -> Result<Option<u8>, Fault>
+        ensures value { result ≡ event_by (close_step self.old label) }
+        ensures next { self.new ≡ next_by self.old (close_step self.old label) }
+    {
+        if self.levels.newest() == Some(label) {
+            self.gives(self.levels.shallower(), 66 + label % 32)
+        } else {
+            Err(Fault::Closing)
+        }
+    }
+
+    // An empty-element tag of a known name: a label is below 32, and one that is not is taken for its remainder.
+    fn points(&mut self, label: u8) -> Result<Option<u8>, Fault>
+        ensures value { result ≡ event_by (Ok (point_step self.old label)) }
+        ensures next { self.new ≡ next_by self.old (Ok (point_step self.old label)) }
+    {
+        self.gives(self.levels, 32 + label % 32)
+    }
+
+    // A tag at its ">": its name is judged first.
+    fn ends(&mut self, names: &[u8]) -> Result<Option<u8>, Fault>
+        ensures value { result ≡ event_by (tag_step names.now self.old) }
+        ensures next { self.new ≡ next_by self.old (tag_step names.now self.old) }
+    {
+        let label = names::label_of(names, self.name).ok_or(Fault::Unknown)?;
+        match self.within {
+            Within::Opening => self.opens(label),
+            Within::Closing => self.closes(label),
+            Within::Empty => self.points(label),
+            Within::Between | Within::Angle | Within::Slashed => Err(Fault::Byte),
+        }
+    }
+
+    // Between tags: a blank or "<".
+    fn between(&mut self, class: Class) -> Result<Option<u8>, Fault>
+        ensures value { result ≡ event_by (between self.old class) }
+        ensures next { self.new ≡ next_by self.old (between self.old class) }
+    {
+        match class {
+            Class::Blank => self.goes(Within::Between, Word::none()),
+            Class::Less => self.goes(Within::Angle, Word::none()),
+            _ => Err(Fault::Byte),
+        }
+    }
+
+    // After "<": a letter or "/".
+    fn angle(&mut self, class: Class, byte: u8) -> Result<Option<u8>, Fault>
+        ensures value { result ≡ event_by (angle self.old class byte) }
+        ensures next { self.new ≡ next_by self.old (angle self.old class byte) }
+    {
+        match class {
+            Class::Letter => self.goes(Within::Opening, Word::none().with(byte)),
+            Class::Slash => self.goes(Within::Slashed, Word::none()),
+            _ => Err(Fault::Byte),
+        }
+    }
+
+    // After "</": a letter.
+    fn slashed(&mut self, class: Class, byte: u8) -> Result<Option<u8>, Fault>
+        ensures value { result ≡ event_by (slashed self.old class byte) }
+        ensures next { self.new ≡ next_by self.old (slashed self.old class byte) }
+    {
+        match class {
+            Class::Letter => self.goes(Within::Closing, Word::none().with(byte)),
+            _ => Err(Fault::Byte),
+        }
+    }
+
+    // In the name of an opening tag: a name byte, ">" or "/".
+    fn opening(&mut self, names: &[u8], class: Class, byte: u8) -> Result<Option<u8>, Fault>
+        ensures value { result ≡ event_by (opening names.now self.old class byte) }
+        ensures next { self.new ≡ next_by self.old (opening names.now self.old class byte) }
+    {
+        match class {
+            Class::Letter | Class::Name => self.goes(Within::Opening, self.name.with(byte)),
+            Class::Greater => self.ends(names),
+            Class::Slash => self.goes(Within::Empty, self.name),
+            _ => Err(Fault::Byte),
+        }
+    }
+
+    // In the name of a closing tag: a name byte or ">".
+    fn closing(&mut self, names: &[u8], class: Class, byte: u8) -> Result<Option<u8>, Fault>
+        ensures value { result ≡ event_by (closing names.now self.old class byte) }
+        ensures next { self.new ≡ next_by self.old (closing names.now self.old class byte) }
+    {
+        match class {
+            Class::Letter | Class::Name => self.goes(Within::Closing, self.name.with(byte)),
+            Class::Greater => self.ends(names),
+            _ => Err(Fault::Byte),
+        }
+    }
+
+    // After the "/" of an empty-element tag: ">".
+    fn empty(&mut self, names: &[u8], class: Class) -> Result<Option<u8>, Fault>
+        ensures value { result ≡ event_by (empty names.now self.old class) }
+        ensures next { self.new ≡ next_by self.old (empty names.now self.old class) }
+    {
+        match class {
+            Class::Greater => self.ends(names),
+            _ => Err(Fault::Byte),
+        }
+    }
+
+    // One byte: the event that it gives, if it ends a tag. One at fault leaves the cursor as it was.
+    fn reads(&mut self, names: &[u8], byte: u8) -> Result<Option<u8>, Fault>
+        ensures value { result ≡ event_by (step_of names.now self.old byte) }
+        ensures next { self.new ≡ next_by self.old (step_of names.now self.old byte) }
+    {
+        let class = names::class_of(byte);
+        match self.within {
+            Within::Between => self.between(class),
+            Within::Angle => self.angle(class, byte),
+            Within::Slashed => self.slashed(class, byte),
+            Within::Opening => self.opening(names, class, byte),
+            Within::Closing => self.closing(names, class, byte),
+            Within::Empty => self.empty(names, class),
         }
     }
 
@@ -72,142 +212,14 @@ impl Cursor {
     }
 }
 
-// A whole tag has given an event.
-fn tag_at(levels: Levels, event: u8) -> Stepped
-    ensures { result ≡ tag_at levels event }
-{
-    Stepped {
-        next: Cursor {
-            within: Within::Between,
-            name: Word::none(),
-            levels,
-        },
-        event: Some(event),
-    }
-}
-
-// An opening tag of a known name.
-fn open_step(cursor: Cursor, label: u8) -> Result<Stepped, Fault>
-    ensures { result ≡ open_step cursor label }
-{
-    let levels = cursor.levels;
-    if levels.depth < 40 {
-        Ok(tag_at(levels.deeper(label), label))
-    } else {
-        Err(Fault::Deep)
-    }
-}
-
-// A closing tag of a known name gives the close that names its label, which is below 32; one that is not is taken for its
-// remainder.
-fn close_step(cursor: Cursor, label: u8) -> Result<Stepped, Fault>
-    ensures { result ≡ close_step cursor label }
-{
-    let levels = cursor.levels;
-    if levels.newest() == Some(label) {
-        Ok(tag_at(levels.shallower(), 66 + label % 32))
-    } else {
-        Err(Fault::Closing)
-    }
-}
-
-// An empty-element tag of a known name: a label is below 32, and one that is not is taken for its remainder.
-fn point_step(cursor: Cursor, label: u8) -> Stepped
-    ensures { result ≡ point_step cursor label }
-{
-    tag_at(cursor.levels, 32 + label % 32)
-}
-
-// A tag at its ">": its name is judged first.
-fn tag_step(names: &[u8], cursor: Cursor) -> Result<Stepped, Fault>
-    ensures { result ≡ tag_step names.now cursor }
-{
-    let label = names::label_of(names, cursor.name).ok_or(Fault::Unknown)?;
-    match cursor.within {
-        Within::Opening => open_step(cursor, label),
-        Within::Closing => close_step(cursor, label),
-        Within::Empty => Ok(point_step(cursor, label)),
-        Within::Between | Within::Angle | Within::Slashed => Err(Fault::Byte),
-    }
-}
-
-// Between tags: a blank or "<".
-fn between(cursor: Cursor, class: Class) -> Result<Stepped, Fault>
-    ensures { result ≡ between cursor class }
-{
-    match class {
-        Class::Blank => Ok(cursor.goes(Within::Between, Word::none())),
-        Class::Less => Ok(cursor.goes(Within::Angle, Word::none())),
-        _ => Err(Fault::Byte),
-    }
-}
-
-// After "<": a letter or "/".
-fn angle(cursor: Cursor, class: Class, byte: u8) -> Result<Stepped, Fault>
-    ensures { result ≡ angle cursor class byte }
-{
-    match class {
-        Class::Letter => Ok(cursor.goes(Within::Opening, Word::none().with(byte))),
-        Class::Slash => Ok(cursor.goes(Within::Slashed, Word::none())),
-        _ => Err(Fault::Byte),
-    }
-}
-
-// After "</": a letter.
-fn slashed(cursor: Cursor, class: Class, byte: u8) -> Result<Stepped, Fault>
-    ensures { result ≡ slashed cursor class byte }
-{
-    match class {
-        Class::Letter => Ok(cursor.goes(Within::Closing, Word::none().with(byte))),
-        _ => Err(Fault::Byte),
-    }
-}
-
-// In the name of an opening tag: a name byte, ">" or "/".
-fn opening(names: &[u8], cursor: Cursor, class: Class, byte: u8) -> Result<Stepped, Fault>
-    ensures { result ≡ opening names.now cursor class byte }
-{
-    match class {
-        Class::Letter | Class::Name => Ok(cursor.goes(Within::Opening, cursor.name.with(byte))),
-        Class::Greater => tag_step(names, cursor),
-        Class::Slash => Ok(cursor.goes(Within::Empty, cursor.name)),
-        _ => Err(Fault::Byte),
-    }
-}
-
-// In the name of a closing tag: a name byte or ">".
-fn closing(names: &[u8], cursor: Cursor, class: Class, byte: u8) -> Result<Stepped, Fault>
-    ensures { result ≡ closing names.now cursor class byte }
-{
-    match class {
-        Class::Letter | Class::Name => Ok(cursor.goes(Within::Closing, cursor.name.with(byte))),
-        Class::Greater => tag_step(names, cursor),
-        _ => Err(Fault::Byte),
-    }
-}
-
-// After the "/" of an empty-element tag: ">".
-fn empty(names: &[u8], cursor: Cursor, class: Class) -> Result<Stepped, Fault>
-    ensures { result ≡ empty names.now cursor class }
-{
-    match class {
-        Class::Greater => tag_step(names, cursor),
-        _ => Err(Fault::Byte),
-    }
-}
-
 // One byte. The names are the first 32 lines of the list.
 pub fn step(names: &[u8], cursor: Cursor, byte: u8) -> Result<Stepped, Fault>
     ensures { result ≡ step_of names.now cursor byte }
 {
-    let class = names::class_of(byte);
-    match cursor.within {
-        Within::Between => between(cursor, class),
-        Within::Angle => angle(cursor, class, byte),
-        Within::Slashed => slashed(cursor, class, byte),
-        Within::Opening => opening(names, cursor, class, byte),
-        Within::Closing => closing(names, cursor, class, byte),
-        Within::Empty => empty(names, cursor, class),
+    let mut next = cursor;
+    match next.reads(names, byte) {
+        Ok(event) => Ok(Stepped { next, event }),
+        Err(fault) => Err(fault),
     }
 }
 
@@ -222,19 +234,19 @@ impl Steps for Cursor {
         out: &mut [u8],
         at: usize,
     ) -> Result<usize, Fault> {
-        match step(names, *self, byte) {
-            Ok(stepped) => {
-                if let Some(event) = stepped.event {
-                    if room == 0 {
-                        return Err(Fault::Short);
-                    }
-                    if at < out.len() {
-                        out[at] = event;
-                    }
+        let before = *self;
+        match self.reads(names, byte) {
+            Ok(Some(event)) => {
+                if room == 0 {
+                    *self = before;
+                    return Err(Fault::Short);
                 }
-                *self = stepped.next;
-                Ok(usize::from(stepped.event.is_some()))
+                if at < out.len() {
+                    out[at] = event;
+                }
+                Ok(1)
             }
+            Ok(None) => Ok(0),
             Err(fault) => Err(fault),
         }
     }
