@@ -11,3 +11,4 @@ pub mod Scribes
 pub mod Spaces
 pub mod WholeStreams
 pub mod WholeTexts
+pub mod Spelling

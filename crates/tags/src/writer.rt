@@ -237,24 +237,22 @@ impl Tag {
     }
 }
 
-impl Spelled {
-    // How many bytes the event gives.
-    fn length(self) -> usize
-        ensures { result ≡ length (gives_by self.tag) }
-    {
-        match self.tag {
-            Some(tag) => tag.length(),
-            None => 0,
-        }
+// How many bytes an event gives.
+fn length(tag: Option<Tag>) -> usize
+    ensures { result ≡ length (gives_by tag) }
+{
+    match tag {
+        Some(tag) => tag.length(),
+        None => 0,
     }
+}
 
-    fn put(self, out: &mut [u8], at: usize)
-        requires { at + length (gives_by self.tag) ≤ length out.old }
-        ensures { out.new ≡ put_at at (gives_by self.tag) out.old }
-    {
-        if let Some(tag) = self.tag {
-            tag.put(out, at);
-        }
+fn put_given(out: &mut [u8], at: usize, tag: Option<Tag>)
+    requires { at + length (gives_by tag) ≤ length out.old }
+    ensures { out.new ≡ put_at at (gives_by tag) out.old }
+{
+    if let Some(tag) = tag {
+        tag.put(out, at);
     }
 }
 
@@ -269,19 +267,20 @@ impl Steps for Scribe {
         out: &mut [u8],
         at: usize,
     ) -> Result<usize, Fault> {
-        match spell(names, *self, byte) {
-            Some(spelled) => {
-                let given = spelled.length();
+        let before = *self;
+        match self.spells(names, byte) {
+            Ok(tag) => {
+                let given = length(tag);
                 if room < given {
+                    *self = before;
                     return Err(Fault::Short);
                 }
                 if at <= out.len() && given <= out.len() - at {
-                    spelled.put(out, at);
+                    put_given(out, at, tag);
                 }
-                *self = spelled.next;
                 Ok(given)
             }
-            None => Err(Fault::Byte),
+            Err(fault) => Err(fault),
         }
     }
 }
@@ -305,13 +304,12 @@ impl Steps for Follower {
         _out: &mut [u8],
         _at: usize,
     ) -> Result<usize, Fault> {
-        match spell(names, self.scribe, byte) {
-            Some(spelled) => {
-                self.left = less(self.left, spelled.length());
-                self.scribe = spelled.next;
+        match self.scribe.spells(names, byte) {
+            Ok(tag) => {
+                self.left = less(self.left, length(tag));
                 Ok(0)
             }
-            None => Err(Fault::Byte),
+            Err(fault) => Err(fault),
         }
     }
 }
