@@ -42,8 +42,9 @@ pub fn class_of(byte: u8) -> Class
 // and the writer have fixed memory and no heap.
 #[derive(Clone, Copy)]
 pub struct Word {
-    pub bytes: [u8; 16],
+    // The number comes first: behind another field's single byte the array would be copied byte by byte.
     pub length: usize,
+    pub bytes: [u8; 16],
 }
 
 impl Word {
