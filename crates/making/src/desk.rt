@@ -7,9 +7,6 @@ pub struct Desk<T> {
     pub tally: T,
 }
 
-// The seed from which a new desk's dice draw.
-pub const SEED: u64 = 88172645463325252;
-
 impl<T: Default> Desk<T> {
     // Nothing is counted yet. Every trial draws from the same seed.
     pub fn new() -> Desk<T> {

@@ -5,6 +5,6 @@ mod desk;
 mod dice;
 mod tables;
 
-pub use desk::{Desk, SEED};
+pub use desk::Desk;
 pub use dice::Dice;
 pub use tables::{make_any, table_length};
