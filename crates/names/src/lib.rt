@@ -42,7 +42,7 @@ pub fn class_of(byte: u8) -> Class
 // and the writer have fixed memory and no heap.
 #[derive(Clone, Copy)]
 pub struct Word {
-    // The number comes first: behind another field's single byte the array would be copied byte by byte.
+    // The number stands first, so that a copy takes the bytes whole.
     pub length: usize,
     pub bytes: [u8; 16],
 }
