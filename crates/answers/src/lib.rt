@@ -221,6 +221,35 @@ impl From<table::Refusal> for Refusal {
 // What became of a call: taken, with the number of reports, or refused.
 pub type Outcome = Result<u64, Refusal>;
 
+// What an outcome tells of a refusal, in numbers.
+pub trait Numbered {
+    // The refusal's number, by which C is told, and 0 where the call was taken.
+    fn number(self) -> u64;
+
+    // The refusal's place, and none where the call was taken.
+    fn place(self) -> Place;
+}
+
+impl Numbered for Outcome {
+    fn number(self) -> u64
+        ensures { result ≡ outcome_number self }
+    {
+        match self {
+            Ok(_) => 0,
+            Err(why) => why.number(),
+        }
+    }
+
+    fn place(self) -> Place
+        ensures { result ≡ outcome_place self }
+    {
+        match self {
+            Ok(_) => Place::none(),
+            Err(why) => why.place(),
+        }
+    }
+}
+
 // The answer of a call: the next record, or where it is refused the old one.
 #[derive(Clone, Copy, Debug, PartialEq, Eq)]
 pub struct Answer {
@@ -247,23 +276,16 @@ impl Answer {
         }
     }
 
-    // The refusal's number, by which C is told, and 0 where the call was taken.
+    // Its outcome's number and place.
     pub fn number(self) -> u64
         ensures { result ≡ outcome_number self.outcome }
     {
-        match self.outcome {
-            Ok(_) => 0,
-            Err(why) => why.number(),
-        }
+        self.outcome.number()
     }
 
-    // The refusal's place, and none where the call was taken.
     pub fn place(self) -> Place
         ensures { result ≡ outcome_place self.outcome }
     {
-        match self.outcome {
-            Ok(_) => Place::none(),
-            Err(why) => why.place(),
-        }
+        self.outcome.place()
     }
 }

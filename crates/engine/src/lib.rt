@@ -20,7 +20,7 @@ ghost use Rattle.engine.specs.Calls.{extent_of, Ready, memory_of, labels_of, ste
 ghost use Rattle.engine.specs.Calls.{event_answer, event_work, event_reports, start_answer, start_work};
 
 use answers::Event;
-pub use answers::{Answer, Outcome, Record, Refusal};
+pub use answers::{Answer, Numbered, Outcome, Record, Refusal};
 use bodies::Table;
 use rows::{Rule, Step};
 use stepping::{Counts, Extent};
