@@ -111,12 +111,19 @@ answer_stop x {k} e = go x.stops refl
     go None h = absurd (err_no_ok (sym (rw h at e)))
     go (Some j) h = let q : j ≡ k = let p : ◌≡◌ {A = Result ℕ Fault} (Err j) (Err k) = rw h at e in cc in rw (h, q)
 
-pub answer_next : {A : Type 0} (x : Step (Roomed A)) {n : ℕ} → told_of x ≡ Ok n → (x.stops ≡ None) × (length x.gives ≡ n)
-answer_next x {n} e = go x.stops refl
+pub answer_given : {A : Type 0} (x : Step (Roomed A)) {n : ℕ} → told_of x ≡ Ok n → (x.stops ≡ None) × (length x.gives ≡ n)
+answer_given x {n} e = go x.stops refl
   where
     go : (t : Option Fault) → x.stops ≡ t → (x.stops ≡ None) × (length x.gives ≡ n)
     go None h = (h, (let p : ◌≡◌ {A = Result ℕ Fault} (Ok (length x.gives)) (Ok n) = rw h at e in cc))
     go (Some j) h = absurd (err_no_ok (rw h at e))
+
+-- The same, and where the step led.
+pub answer_next : {A : Type 0} (a : A) (x : Step (Roomed A)) {n : ℕ} → told_of x ≡ Ok n
+    → (x.stops ≡ None) × (next_of a x ≡ x.next.inner) × (length x.gives ≡ n)
+answer_next a x e =
+    let told = answer_given x e in
+    (told.0, rw told.0, told.1)
 
 -- What the loop over a piece answers.
 module _ {A : Type 0} (step : A → ℕ → Step A) (a : A) (room : ℕ) (piece out₀ : List ℕ) {out : List ℕ} {next : A} (taken given : ℕ)
@@ -134,30 +141,37 @@ module _ {A : Type 0} (step : A → ℕ → Step A) (a : A) (room : ℕ) (piece 
   pub came_all : length piece ≤ taken → Came out None
   came_all l = came None (λ r. refl) (gives_all step a room piece taken given w.so_far l)
 
+  abbrev x : Step (Roomed A)
+  x = step_in step next (room - given) (get_or piece taken 0)
+
+  module _ (l : taken < length piece) {r : Result ℕ Fault} (e : r ≡ told_of (step_in step next (room - given) (get_or piece taken 0)))
+      (long : length out ≡ length out₀) {out' : List ℕ}
+      (p : given + (room - given) ≤ length out → out' ≡ put_at given (written_of (step_in step next (room - given) (get_or piece taken 0))) out) where
+    pub came_stop : {k : Fault} → r ≡ Err k → Came out' (Some k)
+    came_stop {k} h =
+        let stops : x.stops ≡ Some k = answer_stop x (sym e ∙ h) in
+        let none : written_of x ≡ [] = rw stops in
+        came (Some k) (λ q. p (omega (arith, long, w.so_far.fits)) ∙ ap (λ (u : List ℕ). put_at given u out) none ∙ put_none given out)
+        (gives_stop step a room piece taken given w.so_far l k stops)
+
+  -- The same, told of where the step led.
   module _ (l : taken < length piece) {r : Result ℕ Fault} (e : r ≡ told_of (step_in step next (room - given) (get_or piece taken 0)))
       {next' : A} (led : next' ≡ next_of next (step_in step next (room - given) (get_or piece taken 0)))
       (long : length out ≡ length out₀) {out' : List ℕ}
       (p : given + (room - given) ≤ length out → out' ≡ put_at given (written_of (step_in step next (room - given) (get_or piece taken 0))) out) where
-    abbrev x : Step (Roomed A)
-    x = step_in step next (room - given) (get_or piece taken 0)
-
-    pub came_stop : {k : Fault} → r ≡ Err k
+    pub came_stop_at : {k : Fault} → r ≡ Err k
         → (record { next = next'; taken = taken; given = given; stop = Some k } ≡ fed_of (feed_in step a room piece))
         × (room ≤ length out₀ → out' ≡ on_front (feed_in step a room piece).gives out₀)
-    came_stop {k} h =
-        let stops : x.stops ≡ Some k = answer_stop x (sym e ∙ h) in
-        let none : written_of x ≡ [] = rw stops in
-        let stays : next' ≡ next = led ∙ rw stops in
-        rw stays
-        (came (Some k) (λ q. p (omega (arith, long, w.so_far.fits)) ∙ ap (λ (u : List ℕ). put_at given u out) none ∙ put_none given out)
-        (gives_stop step a room piece taken given w.so_far l k stops))
+    came_stop_at {k} h =
+        let stays : next' ≡ next = led ∙ rw (answer_stop x (sym e ∙ h)) in
+        rw stays (came_stop l e long p h)
 
     pub came_on : {n : ℕ} → r ≡ Ok n → Holds step a room piece out₀ out' next' (taken + 1) (given + n)
     came_on {n} h =
-        let told = answer_next x (sym e ∙ h) in
+        let told = answer_next next x (sym e ∙ h) in
         let u = went_in step next (room - given) (get_or piece taken 0) told.0 in
         let all : written_of x ≡ x.gives = rw told.0 in
-        let goes : next' ≡ x.next.inner = led ∙ rw told.0 in
-        rw (goes, sym told.1)
+        let goes : next' ≡ x.next.inner = led ∙ told.1 in
+        rw (goes, sym told.2)
         (holds_on step a room piece out₀ taken given w l (length x.gives) u.is refl u.fits
         (λ q. p (omega (arith, long, w.so_far.fits)) ∙ ap (λ (v : List ℕ). put_at given v out) all))
